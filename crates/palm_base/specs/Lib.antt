@@ -1,0 +1,5 @@
+pub mod History
+pub mod Key
+pub mod Laws
+pub mod Prefix
+pub mod Table

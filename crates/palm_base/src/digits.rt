@@ -1,0 +1,142 @@
+// The packed key of a prefix. Sixteen groups of four bits: the digits from the top, zeros after the last, and in the
+// lowest group the number of digits. Here are the prefix 44 and the longest one:
+//
+//     bits    63..60 59..56 55..52 ..  7..4   3..0
+//     44         4      4      0   ..    0      2      0x4400000000000002
+//     123456789012345
+//                1      2      3   ..    5     15      0x123456789012345F
+//
+// Keys stand in the order of their prefixes: a prefix stands before those that it begins, since it has zeros where they
+// have digits, and where those are zeros too, fewer digits come first.
+ghost use Rattle.std.specs.Prelude.{◌≡◌, ◌≤◌, ◌<◌, length, All, false, position, IfSome, IfNone, Some, slice_index, take, List, ℕ};
+ghost use Rattle.palm_base.specs.Prefix.{IsPrefix, begins, digits_in, is_no_digit, read_of};
+ghost use Rattle.palm_base.specs.Key.{key};
+
+use std::error::Error;
+use std::fmt;
+use std::marker::Model;
+
+/// The greatest number of digits of a prefix or a dialled number, as in ITU-T E.164.
+pub const MOST_DIGITS: u32 = 15;
+
+/// A dialled prefix, or a dialled number: 1 to `MOST_DIGITS` digits. Contracts see the list of its digits.
+///
+/// It is kept as its key, eight bytes, so that comparing two prefixes is comparing two words.
+#[derive(Clone, Copy, Debug, PartialEq, Eq, PartialOrd, Ord, Hash)]
+pub struct Digits {
+    word: u64,
+}
+
+impl Model for Digits {
+    ghost use Rattle.std.specs.Prelude.{List, ℕ};
+
+    ghost Value = { List ℕ };
+
+    ghost use Rattle.std.proofs.Common.{ap};
+    ghost use Rattle.palm_base.specs.Key.{key, digits_of, IsKey};
+
+    ghost view = { λ a. digits_of a.word };
+
+    ghost invariant = { λ a. IsKey a.word };
+
+    ghost inverse = { λ digits. record { word = key digits } };
+
+    ghost inverse_ok = { λ a h. ap (λ (w : ℕ). record { word = w }) h.whole };
+}
+
+/// Why a text is no prefix.
+#[derive(Clone, Copy, Debug, PartialEq, Eq)]
+pub enum DigitsFault {
+    /// The text is empty.
+    Empty,
+    /// The first `MOST_DIGITS` bytes are digits, and there are more bytes.
+    Long,
+    /// The byte at this place, counted from 0 and at most 14, is the first that is no digit.
+    NotDigit(u32),
+}
+
+impl fmt::Display for DigitsFault {
+    fn fmt<W: fmt::Write>(&self, f: &mut fmt::Formatter<W>) -> fmt::Result {
+        match self {
+            DigitsFault::Empty => write!(f, "no digits"),
+            DigitsFault::Long => write!(f, "more than {MOST_DIGITS} digits"),
+            DigitsFault::NotDigit(place) => write!(f, "byte {place} is no digit"),
+        }
+    }
+}
+
+impl Error for DigitsFault {}
+
+fn first_no_digit(text: &[u8]) -> Option<usize>
+    ensures found { result ≡ position is_no_digit text.now }
+    ensures inside { IfSome result (λ i. i < length text.now) }
+    ensures none { IfNone result (All (λ b. is_no_digit b ≡ false) text.now) }
+{
+    text.iter().position(|b| !b.is_ascii_digit())
+}
+
+impl Digits {
+    /// The prefix that a text spells.
+    ///
+    /// `Empty` exactly where the text is empty, `NotDigit` exactly where one of the first 15 bytes is no digit, with
+    /// the place of the first such byte, and `Long` exactly where the first 15 bytes are digits and more follow.
+    pub fn read(text: &[u8]) -> Result<Digits, DigitsFault>
+        ensures { result ≡ read_of text.now }
+    {
+        if text.is_empty() {
+            return Err(DigitsFault::Empty);
+        }
+        let front = text.len().min(MOST_DIGITS as usize);
+        if let Some(place) = first_no_digit(&text[..front]) {
+            return Err(DigitsFault::NotDigit(place as u32));
+        }
+        if text.len() > front {
+            return Err(DigitsFault::Long);
+        }
+        Ok(Digits::from_digits(text))
+    }
+
+    // The prefix of a text of digits.
+    fn from_digits(text: &[u8]) -> Digits
+        requires least { 1 ≤ length text.now }
+        requires most { length text.now ≤ MOST_DIGITS }
+        requires digits { All (λ b. is_no_digit b ≡ false) text.now }
+        ensures { result ≡ digits_in text.now }
+    {
+        let mut word = 0u64;
+        let mut weight = 1u64 << 60;
+        for b in text {
+            word += u64::from(*b - b'0') * weight;
+            weight /= 16;
+        }
+        Digits {
+            word: word + text.len() as u64,
+        }
+    }
+
+    /// The packed word. Keys stand in the order of their prefixes, and no two prefixes have one key.
+    pub fn key(&self) -> u64
+        ensures key { result ≡ key self.now }
+        ensures prefix { IsPrefix self.now }
+    {
+        self.word
+    }
+
+    /// The number of digits.
+    pub fn len(&self) -> u32
+        ensures len { result ≡ length self.now }
+        ensures least { 1 ≤ result }
+        ensures most { result ≤ MOST_DIGITS }
+    {
+        (self.word % 16) as u32
+    }
+
+    /// The digit at a place, counted from 0.
+    pub fn digit(&self, place: u32) -> u8
+        requires { place < length self.now }
+        ensures digit { result ≡ slice_index self.now place }
+        ensures small { result < 10 }
+    {
+        ((self.word >> (60 - 4 * place)) % 16) as u8
+    }
+}

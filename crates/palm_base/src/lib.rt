@@ -1,0 +1,15 @@
+//! Prefixes, rates, rows and calls, and what a call means: the plain definitions on which the other crates stand.
+#![tactic(auto)]
+
+mod amount;
+mod call;
+mod digits;
+pub mod laws;
+mod memory;
+mod row;
+
+pub use amount::{Amount, Limit, MOST_RATE, MOST_ROWS};
+pub use call::{Call, Entry, Reply};
+pub use digits::{Digits, DigitsFault, MOST_DIGITS};
+pub use memory::NoMemory;
+pub use row::{Row, RowList};
