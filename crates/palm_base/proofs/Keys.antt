@@ -22,7 +22,7 @@ one_group_more : (m d t r : ℕ) → m * (t * 16) + (d * t + r) ≡ (m * 16 + d)
 one_group_more m d t r = rw (add-mul (m * 16) d t, mul_assoc m 16 t, mul_comm 16 t) (omega arith)
 
 -- The groups of packed digits are the digits, whatever stands above them.
-groups-packed : (k m : ℕ) (ds : List ℕ) → AreDigits ds → length ds ≤ k → groups (length ds) k (m * 16 ^ k + packed k ds) ≡ ds
+pub groups-packed : (k m : ℕ) (ds : List ℕ) → AreDigits ds → length ds ≤ k → groups (length ds) k (m * 16 ^ k + packed k ds) ≡ ds
 groups-packed k m [] a l = refl
 groups-packed zero m (d ∷ ds) a l = absurd (omega arith)
 groups-packed (suc k) m (d ∷ ds) a l =
@@ -54,18 +54,22 @@ groups-at (suc n) zero word place h l = absurd (omega arith)
 groups-at (suc n) (suc k) word zero h l = ap (λ (i : ℕ). word / 16 ^ i % 16) (omega arith)
 groups-at (suc n) (suc k) word (suc place) h l = groups-at n k word place (omega arith) (omega arith) ∙ ap (λ (i : ℕ). word / 16 ^ i % 16) (omega arith)
 
-hex : (n : ℕ) → 16 ^ n ≡ 2 ^ (4 * n)
+pub hex : (n : ℕ) → 16 ^ n ≡ 2 ^ (4 * n)
 hex zero = refl
 hex (suc n) =
     let more : 2 ^ (4 * suc n) ≡ 2 ^ (4 * n) * 16 = ap (λ (i : ℕ). 2 ^ i) (omega arith) ∙ pow-add 2 (4 * n) 4 in
     rw (pow-suc, hex n) (sym more)
+
+-- The groups of a word, counted from the second lowest, are groups of its bits.
+pub group-bits : (word i bits : ℕ) → 4 + 4 * i ≡ bits → word / 16 / 16 ^ i ≡ word / 2 ^ bits
+group-bits word i bits e = ap (λ (w : ℕ). word / 16 / w) (hex i) ∙ shr-shr word 4 (4 * i) ∙ ap (λ (b : ℕ). word / 2 ^ b) e
 
 digit-small : (ds : List ℕ) (place : ℕ) → AreDigits ds → get_or ds place 0 < 10
 digit-small [] place a = omega arith
 digit-small (d ∷ ds) zero a = a.0
 digit-small (d ∷ ds) (suc place) a = digit-small ds place a.1
 
-length-groups : (n k word : ℕ) → n ≤ k → length (groups n k word) ≡ n
+pub length-groups : (n k word : ℕ) → n ≤ k → length (groups n k word) ≡ n
 length-groups zero k word h = refl
 length-groups (suc n) zero word h = absurd (omega arith)
 length-groups (suc n) (suc k) word h = ap suc (length-groups n k word (omega arith))
@@ -87,8 +91,7 @@ digit_of_word word place ds p same inside =
     let n : ℕ = word % 16 in
     let short : length ds ≤ n = rw same at (groups-short n 15 (word / 16)) in
     let few : length ds ≤ 15 = rw same at (groups-few n 15 (word / 16)) in
-    let down : word / 16 / 16 ^ (14 - place) ≡ word / 2 ^ (60 - 4 * place) =
-    ap (λ (w : ℕ). word / 16 / w) (hex (14 - place)) ∙ shr-shr word 4 (4 * (14 - place)) ∙ ap (λ (i : ℕ). word / 2 ^ i) (omega arith) in
+    let down : word / 16 / 16 ^ (14 - place) ≡ word / 2 ^ (60 - 4 * place) = group-bits word (14 - place) (60 - 4 * place) (omega arith) in
     let at : get_or (digits_of word) place 0 ≡ word / 2 ^ (60 - 4 * place) % 16 = groups-at n 15 (word / 16) place (omega arith) (omega arith) ∙ ap (λ (w : ℕ). w % 16) down in
     let small : get_or (digits_of word) place 0 < 10 = digit-small (digits_of word) place p.small in
     (sym at ∙ ap (λ (l : List ℕ). get_or l place 0) same, rw at at small)

@@ -8,9 +8,10 @@
 //
 // Keys stand in the order of their prefixes: a prefix stands before those that it begins, since it has zeros where they
 // have digits, and where those are zeros too, fewer digits come first.
-ghost use Rattle.std.specs.Prelude.{◌≡◌, ◌≤◌, ◌<◌, length, All, false, position, IfSome, IfNone, Some, slice_index, take, List, ℕ};
+ghost use Rattle.std.specs.Prelude.{◌≡◌, ◌≤◌, ◌<◌, ◌-◌, ◌*◌, ◌/◌, ◌%◌, ◌^◌, nat_lt, length, All, false, position, IfSome, IfNone, Some, slice_index, take, List, ℕ};
 ghost use Rattle.palm_base.specs.Prefix.{IsPrefix, begins, digits_in, is_no_digit, read_of};
 ghost use Rattle.palm_base.specs.Key.{key};
+ghost use Rattle.std.specs.List.{list_all, range_with_len};
 
 use std::error::Error;
 use std::fmt;
@@ -75,6 +76,14 @@ fn first_no_digit(text: &[u8]) -> Option<usize>
     text.iter().position(|b| !b.is_ascii_digit())
 }
 
+// Whether each of the first `count` groups of a word is a digit.
+fn are_digits(word: u64, count: u32) -> bool
+    requires { count ≤ MOST_DIGITS }
+    ensures { result ≡ list_all (λ place. nat_lt (word / 2 ^ (60 - 4 * place) % 16) 10) (range_with_len 0 count) }
+{
+    (0..count).all(|place| (word >> (60 - 4 * place)) % 16 < 10)
+}
+
 impl Digits {
     /// The prefix that a text spells.
     ///
@@ -114,6 +123,26 @@ impl Digits {
         }
     }
 
+    /// The prefix that a word packs. `None` exactly where the word is no prefix's key.
+    pub fn from_key(word: u64) -> Option<Digits>
+        ensures found { IfSome result (λ digits. IsPrefix digits × (key digits ≡ word)) }
+        ensures none { IfNone result ((digits : List ℕ) → IsPrefix digits → key digits ≡ word → ⊥) }
+    {
+        let len = (word % 16) as u32;
+        if len == 0 {
+            return None;
+        }
+        // the groups between the last digit and the number of digits
+        let after = (word >> 4) % (1 << (60 - 4 * len));
+        if after != 0 {
+            return None;
+        }
+        if !are_digits(word, len) {
+            return None;
+        }
+        Some(Digits { word })
+    }
+
     /// The packed word. Keys stand in the order of their prefixes, and no two prefixes have one key.
     pub fn key(&self) -> u64
         ensures key { result ≡ key self.now }
@@ -138,5 +167,29 @@ impl Digits {
         ensures small { result < 10 }
     {
         ((self.word >> (60 - 4 * place)) % 16) as u8
+    }
+
+    /// Whether this prefix begins the other, itself included.
+    pub fn begins(&self, other: &Digits) -> bool
+        ensures { result ≡ begins self.now other.now }
+    {
+        let len = self.len();
+        if len > other.len() {
+            return false;
+        }
+        let below = 64 - 4 * len;
+        self.word >> below == other.word >> below
+    }
+
+    /// The first `n` digits.
+    pub fn front(&self, n: u32) -> Digits
+        requires least { 1 ≤ n }
+        requires most { n ≤ length self.now }
+        ensures { result ≡ take n self.now }
+    {
+        let upper = self.word >> (64 - 4 * n);
+        Digits {
+            word: (upper << (64 - 4 * n)) + u64::from(n),
+        }
     }
 }

@@ -1,6 +1,6 @@
 //! Laws of the definitions. Each function has an empty body: its contract is the law.
 
-ghost use Rattle.palm_base.specs.Laws.{KeysKeepOrder, KeysAreDistinct, CallsKeepTables};
+ghost use Rattle.palm_base.specs.Laws.{KeysKeepOrder, KeysAreDistinct, CallsKeepTables, RepliesStandInPlace, RepliesAreAsMany};
 
 /// Keys stand in the order of their prefixes, and no two prefixes have one key.
 pub fn keys_keep_order()
@@ -11,4 +11,11 @@ pub fn keys_keep_order()
 /// Each call leaves a table.
 pub fn calls_keep_tables()
     ensures { CallsKeepTables }
+{}
+
+/// The replies to a history stand in its order, one for each entry: the reply at a place is the answer to the call there
+/// on the table that the entries before it leave.
+pub fn replies_stand_in_place()
+    ensures place { RepliesStandInPlace }
+    ensures count { RepliesAreAsMany }
 {}

@@ -7,6 +7,8 @@ mod digits;
 pub mod laws;
 mod memory;
 mod row;
+#[cfg(test)]
+mod tests;
 
 pub use amount::{Amount, Limit, MOST_RATE, MOST_ROWS};
 pub use call::{Call, Entry, Reply};
