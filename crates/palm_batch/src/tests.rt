@@ -1,0 +1,102 @@
+ghost use Rattle.std.specs.Prelude.{◌≤◌, length, IfOk};
+ghost use Rattle.palm_base.specs.History.{ArePlain};
+
+use super::*;
+use palm_base::{Amount, Call, Digits, Entry};
+use std::alloc::Global;
+use std::process::Abort;
+use std::test::Fail;
+
+fn digits(rt: &impl Abort, text: &str) -> Digits {
+    Digits::read(text.as_bytes()).expect(rt, "a prefix")
+}
+
+fn set(rt: &impl Abort, prefix: &str, rate: u64) -> Call {
+    Call::Set {
+        prefix: digits(rt, prefix),
+        rate: Amount::new(rate).expect(rt, "a rate"),
+    }
+}
+
+fn del(rt: &impl Abort, prefix: &str) -> Call {
+    Call::Del {
+        prefix: digits(rt, prefix),
+    }
+}
+
+fn get(rt: &impl Abort, prefix: &str) -> Call {
+    Call::Get {
+        prefix: digits(rt, prefix),
+    }
+}
+
+fn entries_of(rt: &impl Abort, alloc: Global, calls: &[Call]) -> Result<Vec<Entry>, Fail>
+    ensures { IfOk result (λ entries. ArePlain entries.items) }
+{
+    let mut entries = Vec::new(alloc);
+    for call in calls {
+        assert!(rt; !matches!(call, Call::Rate { .. } | Call::List { .. }));
+        entries.push(Entry {
+            caller: 0,
+            place: 0,
+            call: *call,
+        })?;
+    }
+    Ok(entries)
+}
+
+// The replies to the calls, as text.
+fn asked(
+    rt: &impl Abort,
+    alloc: Global,
+    table: &mut PlainTable,
+    calls: &[Call],
+) -> Result<String, Fail> {
+    let batch = entries_of(rt, alloc, calls)?;
+    assert!(rt; batch.len() <= MOST_CALLS);
+    let replies = run_plain(alloc, table, &batch)?;
+    Ok(format!(in alloc; "{replies:?}")?)
+}
+
+#[test]
+fn each_call_is_answered_on_the_table_that_the_calls_before_it_leave(
+    rt: HostRuntime,
+) -> Result<(), Fail> {
+    let alloc = rt.alloc();
+    let mut table = PlainTable::new(alloc);
+    let empty = asked(&rt, alloc, &mut table, &[])?;
+    assert_eq!(rt; empty.as_str(), "[]");
+    assert_eq!(rt; table.row_count(), 0);
+
+    // The rows land alone, in front, at the end, and in the middle.
+    let calls = [
+        set(&rt, "44", 5),
+        set(&rt, "2", 1),
+        set(&rt, "9", 3),
+        set(&rt, "441", 8),
+        set(&rt, "44", 7),
+        get(&rt, "44"),
+        get(&rt, "4"),
+    ];
+    let filled = asked(&rt, alloc, &mut table, &calls)?;
+    assert_eq!(rt;
+        filled.as_str(),
+        "[New, New, New, New, Was(Amount { value: 5 }), Value(Amount { value: 7 }), Absent]"
+    );
+    assert_eq!(rt; table.row_count(), 4);
+
+    let calls = [
+        del(&rt, "2"),
+        del(&rt, "2"),
+        get(&rt, "2"),
+        get(&rt, "441"),
+        get(&rt, "9"),
+    ];
+    let emptied = asked(&rt, alloc, &mut table, &calls)?;
+    assert_eq!(rt;
+        emptied.as_str(),
+        "[Gone(Amount { value: 1 }), Absent, Absent, Value(Amount { value: 8 }), Value(Amount { value: 3 })]"
+    );
+    assert_eq!(rt; table.row_count(), 3);
+    Ok(())
+}
