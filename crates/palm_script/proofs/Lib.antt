@@ -1,0 +1,7 @@
+mod Appended
+pub mod Cuts
+pub mod Faults
+pub mod Fields
+pub mod Lines
+pub mod Orders
+pub mod Streams

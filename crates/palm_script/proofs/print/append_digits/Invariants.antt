@@ -1,0 +1,7 @@
+use Rattle.std.proofs.Common.{◌≡◌, ◌++◌, take}
+use Rattle.palm_script.specs.Transcript.{digits_text}
+use Rattle.palm_script.proofs.print.append_digits.Given as goal
+
+-- the digits so far stand after what was there
+abbrev pub invariant-loop-place : goal.invariant-loop-place
+invariant-loop-place l = l.out.items ≡ l.fn.out.items ++ digits_text (take l.place l.digits)

@@ -1,0 +1,9 @@
+use Rattle.std.proofs.Common.{◌≡◌, ◌++◌, length, take}
+use Rattle.std.specs.List.{flat_map}
+use Rattle.std.specs.Fmt.{decimal}
+use Rattle.palm_script.specs.Transcript.{listed_row_text}
+use Rattle.palm_script.proofs.print.append_rows.Given as goal
+
+-- the count and the rows so far stand after what was there
+abbrev pub invariant-loop-i : goal.invariant-loop-i
+invariant-loop-i l = l.out.items ≡ l.fn.out.items ++ (decimal (length l.rows) ++ flat_map listed_row_text (take l.i l.rows))

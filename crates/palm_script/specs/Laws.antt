@@ -1,0 +1,22 @@
+-- The laws of scripts and runs, which the functions of the module of laws carry.
+use Rattle.std.specs.Prelude.{◌≡◌, ◌≤◌, ℕ, Bool, false, List, [], ◌++◌, length, IsSome}
+use Rattle.std.specs.List.{AllByRecursion}
+use Rattle.palm_base.specs.History.{entries_of, numbered, IsCutting}
+use Rattle.palm_base.specs.declared.call.Entry.{Entry}
+use Rattle.palm_script.specs.Script.{script_of, entries_from, calls_by}
+use Rattle.palm_script.specs.Transcript.{cut_by}
+use Rattle.palm_script.specs.declared.line.Line.{Line}
+
+-- Where the lines of a text hold a faulty one, every longer text says the same.
+abbrev pub FaultsStand : Type 0
+FaultsStand = (text more : List ℕ) (whole : Bool) → IsSome (script_of text false).fault → script_of (text ++ more) whole ≡ script_of text false
+
+-- A caller's entries are its calls, in the order of the lines, numbered from 0.
+abbrev pub StraightKeepsOrder : Type 0
+StraightKeepsOrder = (items : List Line) (caller : ℕ) → entries_of caller (entries_from [] items) ≡ numbered caller 0 (calls_by caller items)
+
+-- Batches of `most` calls, and what is left, are a cutting, and none is longer than `most`.
+abbrev pub CutByCuts : Type 0
+CutByCuts =
+    (entries : List Entry) (most : ℕ) → 1 ≤ most
+    → IsCutting entries (cut_by most (length entries)) × AllByRecursion (λ n. n ≤ most) (cut_by most (length entries))

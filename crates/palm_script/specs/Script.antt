@@ -1,0 +1,75 @@
+-- A script: its lines, and the items that they ask for up to the first faulty line.
+use Rattle.std.specs.Prelude.{◌≡◌, ◌<◌, ℕ, ◌+◌, ◌-◌, ◌==◌, nat_lt, Bool, ◌&&◌, if◌then◌else◌, List, [], ◌∷◌, ◌++◌, length, map, take, slice_index, count_by, Option, Some, None, Result, Ok, Err}
+use Rattle.std.specs.List.{slice_split}
+use Rattle.palm_base.specs.declared.call.Call.{Call}
+use Rattle.palm_base.specs.declared.call.Entry.{Entry}
+use Rattle.palm_script.specs.Line.{line_of}
+use Rattle.palm_script.specs.declared.script.Script.{Script}
+use Rattle.palm_script.specs.declared.line.Line.{Line}
+use Rattle.palm_script.specs.declared.line.Line.TheVariants.{Skip, Made}
+use Rattle.palm_script.specs.declared.line.LineFault.{LineFault}
+
+-- The byte that ends a line.
+abbrev pub is_feed : ℕ → Bool
+is_feed b = b == 10
+
+-- A carriage return at the end of a line is no part of it.
+abbrev pub without_return : List ℕ → List ℕ
+without_return text = if slice_index text (length text - 1) == 13 then take (length text - 1) text else text
+
+-- Of the parts between line feeds the last is a line only where the text is whole and the part isn't empty.
+abbrev pub ended : Bool → List (List ℕ) → List (List ℕ)
+ended whole [] = []
+ended whole (part ∷ []) = if whole && nat_lt 0 (length part) then part ∷ [] else []
+ended whole (part ∷ parts) = part ∷ ended whole parts
+
+-- The lines of a text, without their endings. So "a\r\nb" has the line "a", and where it is whole the line "b" too.
+abbrev pub lines_of : List ℕ → Bool → List (List ℕ)
+lines_of text whole = map without_return (ended whole (slice_split is_feed text))
+
+-- What a script says: the lines that aren't skipped, before the first faulty line, and the fault of that line.
+pub record Outcome : Type 0 where
+  pub items : List Line
+  pub fault : Option LineFault
+
+abbrev pub first_then : Result Line LineFault → Outcome → Outcome
+first_then (Err fault) rest = record { items = []; fault = Some fault }
+first_then (Ok Skip) rest = rest
+first_then (Ok (Made caller call)) rest = record { items = Made caller call ∷ rest.items; fault = rest.fault }
+
+-- What these lines say, of which the first is the n-th.
+abbrev pub outcome_from : ℕ → List (List ℕ) → Outcome
+outcome_from n [] = record { items = []; fault = None }
+outcome_from n (text ∷ texts) = first_then (line_of text n) (outcome_from (n + 1) texts)
+
+-- What a script says. Where its text isn't whole, the bytes after its last line feed are no line.
+abbrev pub script_of : List ℕ → Bool → Outcome
+script_of text whole = outcome_from 1 (lines_of text whole)
+
+-- The next entry of a caller, after these.
+abbrev pub next_entry : List Entry → ℕ → Call → Entry
+next_entry before caller call = record { caller = caller; place = count_by (λ entry. entry.caller == caller) before; call = call }
+
+-- The entries that items make after these, in the order of the lines.
+-- So where caller 3 makes the calls x, y they are (3, 0, x), (3, 1, y).
+abbrev pub entries_from : List Entry → List Line → List Entry
+entries_from before [] = []
+entries_from before (Skip ∷ items) = entries_from before items
+entries_from before (Made caller call ∷ items) =
+    let entry = next_entry before caller call in
+    entry ∷ entries_from (before ++ entry ∷ []) items
+
+-- The calls of one caller, in the order of the lines.
+abbrev pub calls_by : ℕ → List Line → List Call
+calls_by caller [] = []
+calls_by caller (Skip ∷ items) = calls_by caller items
+calls_by caller (Made other call ∷ items) = if other == caller then call ∷ calls_by caller items else calls_by caller items
+
+-- The script that was read has the entries of these items, and this fault.
+pub record Says (outcome : Outcome) (script : Script) : Type 0 where
+  pub entries : script.entries.items ≡ entries_from [] outcome.items
+  pub fault : script.fault ≡ outcome.fault
+
+-- These are the numbers of the calls that each caller has made.
+abbrev pub AreCounts : List ℕ → List Entry → Type 0
+AreCounts counts entries = (caller : ℕ) → caller < 64 → slice_index counts caller ≡ count_by (λ entry. entry.caller == caller) entries

@@ -1,0 +1,19 @@
+//! Laws of the definitions of scripts and runs. Each function has an empty body: its contract is the law.
+
+ghost use Rattle.palm_script.specs.Laws.{FaultsStand, StraightKeepsOrder, CutByCuts};
+
+/// A faulty line stays the first one whatever follows it in the script.
+pub fn faults_stand()
+    ensures { FaultsStand }
+{}
+
+/// The entries of a script's run in the order of its lines keep each caller's order: they are the caller's calls, whole
+/// and in order, numbered from 0.
+pub fn straight_keeps_order()
+    ensures { StraightKeepsOrder }
+{}
+
+/// Batches of `most` calls, and what is left, are a cutting, none longer than `most`.
+pub fn cut_by_cuts()
+    ensures { CutByCuts }
+{}

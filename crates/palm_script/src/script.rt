@@ -1,0 +1,169 @@
+ghost use Rattle.std.specs.Prelude.{◌≡◌, ◌≤◌, ◌<◌, ◌+◌, ◌∷◌, [], ◌++◌, false, length, position, All, MatchOption, IfSome, IfNone, IfOk, OnOk, IsSome, List, ℕ, Bool};
+ghost use Rattle.palm_base.specs.Table.{IsPlain};
+ghost use Rattle.palm_base.specs.History.{ArePlain};
+ghost use Rattle.palm_script.specs.Script.{is_feed, without_return as without, lines_of, next_entry, entries_from, script_of, AreCounts, Says};
+
+use crate::input::MOST_BYTES;
+use crate::line::{Line, LineFault, MOST_CALLER, read_line};
+use palm_base::{Call, Entry, NoMemory};
+use std::alloc::Global;
+
+/// What a script says: the calls of its lines before the first faulty one, and the fault of that line.
+#[derive(Debug, Drop)]
+pub struct Script {
+    /// The calls in the order of their lines, each with its place among its caller's calls.
+    pub entries: Vec<Entry>,
+    pub fault: Option<LineFault>,
+}
+
+fn first_feed(text: &[u8]) -> Option<usize>
+    ensures place { result ≡ position is_feed text.now }
+    ensures inside { IfSome result (λ i. i < length text.now) }
+    ensures none { IfNone result (All (λ b. is_feed b ≡ false) text.now) }
+{
+    text.iter().position(|b| *b == b'\n')
+}
+
+fn without_return(text: &[u8]) -> &[u8]
+    ensures { result.now ≡ without text.now }
+{
+    match text {
+        [front @ .., b'\r'] => front,
+        _ => text,
+    }
+}
+
+// The first line, without its ending, and what stands behind it.
+fn next_line(text: &[u8], whole: bool) -> Option<(&[u8], &[u8])>
+    ensures next { MatchOption result (lines_of text.now whole ≡ []) (λ x. lines_of text.now whole ≡ x.0.now ∷ lines_of x.1.now whole) }
+    ensures shorter { IfSome result (λ x. length x.1.now < length text.now) }
+{
+    match first_feed(text) {
+        Some(i) => Some((without_return(&text[..i]), &text[i + 1..])),
+        None if whole && !text.is_empty() => Some((without_return(text), &[])),
+        None => None,
+    }
+}
+
+// Adds a caller's next call. `counts` has the number of each caller's calls so far.
+fn add_entry(
+    entries: &mut Vec<Entry>,
+    counts: &mut [u64; 64],
+    caller: u32,
+    call: Call,
+) -> Result<(), NoMemory>
+    requires caller { caller ≤ MOST_CALLER }
+    requires call { IsPlain call }
+    requires plain { ArePlain entries.old.items }
+    requires counts { AreCounts counts.old entries.old.items }
+    requires few { length entries.old.items ≤ MOST_BYTES }
+    ensures added { OnOk result (entries.new.items ≡ entries.old.items ++ next_entry entries.old.items caller call ∷ []) }
+    ensures plain { OnOk result (ArePlain entries.new.items) }
+    ensures counts { OnOk result (AreCounts counts.new entries.new.items) }
+{
+    let place = counts[caller as usize];
+    entries.push(Entry {
+        caller,
+        place,
+        call,
+    })?;
+    counts[caller as usize] = place + 1;
+    Ok(())
+}
+
+/// Reads the lines of a script up to the first faulty one.
+///
+/// Where the text isn't `whole`, as when its source failed, the bytes after its last line feed are no line. Beside
+/// `NoMemory`, which leaves nothing behind, there is no error: a faulty line is part of what the script says.
+pub fn read_script(alloc: Global, text: &[u8], whole: bool) -> Result<Script, NoMemory>
+    requires { length text.now ≤ MOST_BYTES }
+    ensures says { IfOk result (λ script. Says (script_of text.now whole) script) }
+    ensures plain { IfOk result (λ script. ArePlain script.entries.items) }
+    ensures few { IfOk result (λ script. length script.entries.items ≤ length text.now) }
+{
+    let mut entries = Vec::new(alloc);
+    let mut counts = [0u64; 64];
+    let mut line = 1u64;
+    let mut rest = text;
+    while let Some((first, after)) = next_line(rest, whole) {
+        match read_line(first, line) {
+            Ok(Line::Skip) => {}
+            Ok(Line::Made { caller, call }) => add_entry(&mut entries, &mut counts, caller, call)?,
+            Err(fault) => {
+                return Ok(Script {
+                    entries,
+                    fault: Some(fault),
+                });
+            }
+        }
+        line += 1;
+        rest = after;
+    }
+    Ok(Script {
+        entries,
+        fault: None,
+    })
+}
+
+#[cfg(test)]
+mod tests {
+    use super::*;
+    use std::process::Abort;
+    use std::test::Fail;
+
+    // The entries of a script, each as `caller:place`, and the line of its fault.
+    fn reads(
+        rt: &impl Abort,
+        alloc: Global,
+        text: &str,
+        whole: bool,
+        entries: &str,
+        line: Option<u64>,
+    ) -> Result<(), Fail> {
+        let bytes = text.as_bytes();
+        assert!(rt; bytes.len() <= MOST_BYTES);
+        let script = read_script(alloc, bytes, whole)?;
+        let mut shown = String::new(alloc);
+        for entry in &script.entries {
+            let caller = entry.caller;
+            let place = entry.place;
+            shown.push_str(&format!(in alloc; " {caller}:{place}")?)?;
+        }
+        assert_eq!(rt; shown.as_str(), entries, "{text}");
+        assert_eq!(rt; script.fault.map(|fault| fault.line), line, "{text}");
+        Ok(())
+    }
+
+    #[test]
+    fn scripts(rt: HostRuntime) -> Result<(), Fail> {
+        for (text, whole, entries, line) in [
+            ("", true, "", None),
+            ("\r\n", true, "", None),
+            (
+                "0 get 4\r\n1 set 4 5\r\n0 del 4\r\n",
+                true,
+                " 0:0 1:0 0:1",
+                None,
+            ),
+            ("0 get 4\n0 get 5", true, " 0:0 0:1", None),
+            ("0 get 4\n0 get 5", false, " 0:0", None),
+            ("0 get 4\nget", true, " 0:0", Some(2)),
+            ("0 get 4\nget", false, " 0:0", None),
+            (
+                "\n\n# note\n 5 get 4\n\n5 get\n5 get 4\n",
+                false,
+                " 5:0",
+                Some(6),
+            ),
+            (
+                "63 get 1\n2 get 1\n63 del 1\n2 del 1\n63 get 1\n",
+                true,
+                " 63:0 2:0 63:1 2:1 63:2",
+                None,
+            ),
+        ] {
+            reads(&rt, rt.alloc(), text, whole, entries, line)?;
+        }
+        Ok(())
+    }
+}

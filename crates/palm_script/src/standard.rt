@@ -1,0 +1,67 @@
+use crate::traits::{Failed, Sink, Source};
+use std::io::{Read, Write};
+
+/// A source over a reader of std, as standard input. It raises its count of faults at each error.
+#[derive(Debug, Drop)]
+pub struct StdSource<R> {
+    inner: R,
+    faults: u64,
+}
+
+impl<R> StdSource<R> {
+    /// A source over this reader.
+    pub fn new(inner: R) -> StdSource<R> {
+        StdSource { inner, faults: 0 }
+    }
+}
+
+impl<R: Read> Source for StdSource<R> {
+    ghost left = { λ s. R.remaining s.inner };
+
+    ghost faults = { λ s. s.faults };
+
+    fn read(&mut self, buf: &mut [u8]) -> Result<usize, Failed> {
+        match self.inner.read(buf) {
+            Ok(count) => Ok(count),
+            Err(_) => {
+                self.faults = self.faults.saturating_add(1);
+                Err(Failed)
+            }
+        }
+    }
+}
+
+/// A sink over a writer of std, as standard output. Each write is flushed. It tells no bytes, and raises its count of
+/// faults at each error and where the writer takes nothing of a part that isn't empty.
+#[derive(Debug, Drop)]
+pub struct StdSink<W> {
+    inner: W,
+    faults: u64,
+}
+
+impl<W> StdSink<W> {
+    /// A sink over this writer.
+    pub fn new(inner: W) -> StdSink<W> {
+        StdSink { inner, faults: 0 }
+    }
+}
+
+impl<W: Write> Sink for StdSink<W> {
+    ghost use Rattle.std.specs.Prelude.{None};
+
+    ghost taken = { λ _. None };
+
+    ghost faults = { λ s. s.faults };
+
+    fn write(&mut self, part: &[u8]) -> Result<usize, Failed> {
+        let written = self.inner.write(part);
+        let flushed = self.inner.flush();
+        match (written, flushed) {
+            (Ok(count), Ok(())) if count > 0 || part.is_empty() => Ok(count),
+            _ => {
+                self.faults = self.faults.saturating_add(1);
+                Err(Failed)
+            }
+        }
+    }
+}
