@@ -1,0 +1,59 @@
+-- A history in batches of one length: the first batch, and what is left.
+use Rattle.std.proofs.Common.{◌≡◌, ℕ, suc, ◌+◌, ◌-◌, ◌*◌, ◌/◌, ◌%◌, ◌<◌, ◌≤◌, min, eqb, cond, List, [], ◌∷◌, ◌++◌, length, take, drop, refl, sym, ap, subst, ◌∙◌, append_assoc, arith, inl, inr}
+use Rattle.std.proofs.Math.Nat.{suc-mul, mod-eq_of_lt, div-eq_of_lt, zero-div}
+use Rattle.std.proofs.lemmas.Bool.{cases_lt, ne_eqb}
+use Rattle.std.proofs.lemmas.List.{length-drop, length-take}
+use Rattle.std.proofs.lemmas.Nat.{div-add-mod', div-mul-add, mod-mul-add, mod_below}
+use Rattle.palm_base.specs.declared.row.Row.{Row}
+use Rattle.palm_base.specs.declared.call.Entry.{Entry}
+use Rattle.palm_base.specs.Table.{after}
+use Rattle.palm_base.specs.History.{table_after}
+use Rattle.palm_script.specs.Transcript.{batch_text, batches_text, cut_by}
+
+pub table_after-append : (rows : List Row) (xs ys : List Entry) → table_after rows (xs ++ ys) ≡ table_after (table_after rows xs) ys
+table_after-append rows [] ys = refl
+table_after-append rows (x ∷ xs) ys = table_after-append (after rows x.call) xs ys
+
+-- the last length, where it isn't 0
+abbrev left_over : ℕ → List ℕ
+left_over r = cond (eqb r 0) [] (r ∷ [])
+
+left_over-some : (r : ℕ) → 0 < r → left_over r ≡ r ∷ []
+left_over-some r some = rw (ne_eqb r 0 (λ e. omega arith)) refl
+
+-- The first of some calls' batches, and the batches of the others.
+pub cut_by-more : (most count : ℕ) → 1 ≤ most → 0 < count → cut_by most count ≡ min count most ∷ cut_by most (count - min count most)
+cut_by-more most count some left =
+    elim (cases_lt count most) [
+      | inl lt ↦
+          let all : min count most ≡ count = omega arith in
+          let none : count - count ≡ 0 = omega arith in
+          rw (all, none, div-eq_of_lt lt, mod-eq_of_lt lt, zero-div most, mod-eq_of_lt some) (left_over-some count left)
+      | inr ge ↦
+          let q = (count - most) / most in
+          let r = (count - most) % most in
+          let small : r < most = mod_below (count - most) most some in
+          let parts : q * most + r ≡ count - most = div-add-mod' (count - most) most in
+          let whole : count ≡ suc q * most + r = omega (arith, suc-mul q most, parts) in
+          let first : min count most ≡ most = omega arith in
+          let quotient : count / most ≡ suc q = ap (λ (n : ℕ). n / most) whole ∙ div-mul-add (suc q) most r small in
+          let rest : count % most ≡ r = ap (λ (n : ℕ). n % most) whole ∙ mod-mul-add (suc q) most r small in
+          rw (first, quotient, rest) refl
+    ]
+
+-- A batch more was written: what is written, with the text of what is left, is still the whole text.
+pub written_more : (most n : ℕ) (rows : List Row) (rest batch left : List Entry) (w all : List ℕ) → 1 ≤ most → 0 < length rest
+    → batch ≡ take (min (length rest) most) rest → left ≡ drop (min (length rest) most) rest
+    → w ++ batches_text n rows rest (cut_by most (length rest)) ≡ all
+    → (w ++ batch_text n rows batch) ++ batches_text (n + length batch) (table_after rows batch) left (cut_by most (length left)) ≡ all
+written_more most n rows rest batch left w all some more batch-is left-is whole =
+    let k : ℕ = min (length rest) most in
+    let size : length batch ≡ k = ap length batch-is ∙ length-take k rest ∙ omega arith in
+    let fewer : length rest - k ≡ length left = omega (arith, length-drop k rest, ap length left-is) in
+    let cut : cut_by most (length rest) ≡ k ∷ cut_by most (length left) = cut_by-more most (length rest) some more ∙ ap (λ (m : ℕ). k ∷ cut_by most m) fewer in
+    let by_count : ℕ → Type 0 = λ m.
+    batches_text n rows rest (cut_by most (length rest)) ≡ batch_text n rows batch ++ batches_text (n + m) (table_after rows batch) left (cut_by most (length left)) in
+    let one = ap (batches_text n rows rest) cut in
+    let opened : by_count (length batch) = subst by_count (sym size) (rw (← batch-is, ← left-is) at one) in
+    append_assoc w (batch_text n rows batch) (batches_text (n + length batch) (table_after rows batch) left (cut_by most (length left)))
+    ∙ ap (λ (l : List ℕ). w ++ l) (sym opened) ∙ whole
