@@ -1,7 +1,8 @@
 -- Worked examples of the definitions, which the checker computes.
 use Rattle.std.proofs.Common.{◌≡◌, ℕ, true, false, List, [], ◌∷◌, refl}
 use Rattle.std.specs.Prelude.{codes, Ok, Err}
-use Rattle.palm_base.specs.Prefix.{begins, comes_before, read_of}
+use Rattle.std.specs.Fmt.{digits}
+use Rattle.palm_base.specs.Prefix.{begins, comes_before, read_of, fault_text}
 use Rattle.palm_base.specs.Key.{key}
 use Rattle.palm_base.specs.Table.{answer, after}
 use Rattle.palm_base.specs.History.{replies_to, table_after, batches}
@@ -58,6 +59,15 @@ read-empty = refl
 -- Fifteen digits are a prefix's most.
 read-long : read_of (codes "1234567890123456") ≡ Err Long
 read-long = refl
+
+-- Faults are told in words.
+fault-no_digit : fault_text (NotDigit 1) ≡ codes "byte 1 is no digit"
+unfolding digits
+fault-no_digit = refl
+
+fault-long : fault_text Long ≡ codes "more than 15 digits"
+unfolding digits
+fault-long = refl
 
 -- ---- the order of prefixes
 

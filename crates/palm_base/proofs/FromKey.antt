@@ -45,6 +45,7 @@ after-groups word =
 abbrev pub digits-are_small : ℕ → Bool
 digits-are_small word = list_all (λ place. nat_lt (word / 2 ^ (60 - 4 * place) % 16) 10) (range_with_len 0 (word % 16))
 
+-- A word with some digits, each below 10, and nothing after them is a key.
 pub key_of_word : (word : ℕ) → word < 2 ^ 64 → (word % 16 ≡ 0 → ⊥) → after word ≡ 0 → digits-are_small word ≡ true → IsKey word
 key_of_word word fits some none small =
     let n : ℕ = word % 16 in
@@ -60,6 +61,7 @@ key_of_word word fits some none small =
       whole = rw len (omega arith);
     }
 
+-- A key has nothing after its digits, and each is below 10.
 pub word_of_key : (word : ℕ) (digits : List ℕ) → IsPrefix digits → key digits ≡ word → (after word ≡ 0) × (digits-are_small word ≡ true)
 word_of_key word digits p e =
     let len : word % 16 ≡ length digits = ap (λ (w : ℕ). w % 16) (sym e) ∙ mod-mul-add (packed 15 digits) 16 (length digits) (omega (arith, p.few)) in

@@ -49,6 +49,7 @@ upper-groups n ds p some h =
     let down : key ds / 16 / 16 ^ (15 - n) ≡ key ds / 2 ^ (64 - 4 * n) = group-bits (key ds) (15 - n) (64 - 4 * n) (omega arith) in
     sym down ∙ ap (λ (w : ℕ). w / 16 ^ (15 - n)) word ∙ packed-take n 15 ds p.small h few
 
+-- The first digits of a prefix are a prefix.
 pub front-is_prefix : (n : ℕ) (ds : List ℕ) → IsPrefix ds → 1 ≤ n → n ≤ length ds → IsPrefix (take n ds)
 front-is_prefix n ds p some h = record {
   some = rw (length-take-le n ds h) some;
@@ -69,6 +70,7 @@ front-key n ds p some h =
     let fits : packed 15 t * 16 < 2 ^ 64 = omega (arith, packed-fits t q.small q.few) in
     rw (upper-groups n ds p some h, whole, mod-eq_of_lt fits, len) refl
 
+-- A list begins another exactly where it is the other's first elements.
 begins-take : (ps ds : List ℕ) → Decides (begins ps ds) (ps ≡ take (length ps) ds)
 begins-take [] ds = (λ _. refl, λ _. refl)
 begins-take (d ∷ ps) [] = (λ e. absurd (false≢true e), λ e. cc)
@@ -77,6 +79,7 @@ begins-take (d ∷ ps) (e ∷ ds) = Decides-like (d == e && begins ps ds) (λ h.
     joined : d ≡ e → ps ≡ take (length ps) ds → d ∷ ps ≡ e ∷ take (length ps) ds
     joined h i = cc
 
+-- Two lists of n digits that are packed alike are one.
 same_from_packed : (n : ℕ) (xs ys : List ℕ) → AreDigits xs → AreDigits ys → length xs ≡ n → length ys ≡ n → packed n xs ≡ packed n ys → xs ≡ ys
 same_from_packed n xs ys a b l m e =
     let out-xs : groups n n (0 * 16 ^ n + packed n xs) ≡ xs = rw l at (groups-packed n 0 xs a (omega arith)) in

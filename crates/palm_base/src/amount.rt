@@ -6,7 +6,7 @@ use std::marker::Model;
 pub const MOST_RATE: u64 = 999_999_999_999;
 
 /// The greatest limit of a list, in rows.
-pub const MOST_ROWS: u32 = 1_000;
+pub const MOST_LIMIT: u32 = 1_000;
 
 /// A rate: a whole number from 0 to `MOST_RATE`, in a unit that the user chooses. Contracts see the number.
 #[derive(Clone, Copy, Debug, PartialEq, Eq, PartialOrd, Ord, Hash)]
@@ -47,7 +47,7 @@ impl Amount {
     }
 }
 
-/// How many rows a list shows at most: 1 to `MOST_ROWS`. Contracts see the number.
+/// How many rows a list shows at most: 1 to `MOST_LIMIT`. Contracts see the number.
 #[derive(Clone, Copy, Debug, PartialEq, Eq, PartialOrd, Ord, Hash)]
 pub struct Limit {
     value: u32,
@@ -55,23 +55,23 @@ pub struct Limit {
 
 impl Model for Limit {
     ghost use Rattle.std.specs.Prelude.{ℕ, ◌≤◌};
-    ghost use Rattle.palm_base.specs.declared.amount.TheConstants.{MOST_ROWS};
+    ghost use Rattle.palm_base.specs.declared.amount.TheConstants.{MOST_LIMIT};
 
     ghost Value = { ℕ };
 
     ghost view = { λ a. a.value };
 
-    ghost invariant = { λ a. (1 ≤ a.value) × (a.value ≤ MOST_ROWS) };
+    ghost invariant = { λ a. (1 ≤ a.value) × (a.value ≤ MOST_LIMIT) };
 
     ghost inverse = { λ n. record { value = n } };
 }
 
 impl Limit {
-    /// The limit of this many rows. `None` exactly where that is 0 or above `MOST_ROWS`.
+    /// The limit of this many rows. `None` exactly where that is 0 or above `MOST_LIMIT`.
     pub fn new(value: u32) -> Option<Limit>
-        ensures { result ≡ (if nat_le 1 value && nat_le value MOST_ROWS then Some value else None) }
+        ensures { result ≡ (if nat_le 1 value && nat_le value MOST_LIMIT then Some value else None) }
     {
-        if value == 0 || value > MOST_ROWS {
+        if value == 0 || value > MOST_LIMIT {
             return None;
         }
         Some(Limit { value })
@@ -81,7 +81,7 @@ impl Limit {
     pub fn get(&self) -> u32
         ensures value { result ≡ self.now }
         ensures least { 1 ≤ result }
-        ensures most { result ≤ MOST_ROWS }
+        ensures most { result ≤ MOST_LIMIT }
     {
         self.value
     }

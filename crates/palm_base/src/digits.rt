@@ -9,8 +9,8 @@
 // Keys stand in the order of their prefixes: a prefix stands before those that it begins, since it has zeros where they
 // have digits, and where those are zeros too, fewer digits come first.
 ghost use Rattle.std.specs.Prelude.{◌≡◌, ◌≤◌, ◌<◌, ◌-◌, ◌*◌, ◌/◌, ◌%◌, ◌^◌, nat_lt, length, All, false, position, IfSome, IfNone, Some, slice_index, take, List, ℕ};
-ghost use Rattle.palm_base.specs.Prefix.{IsPrefix, begins, digits_in, is_no_digit, read_of};
-ghost use Rattle.palm_base.specs.Key.{key};
+ghost use Rattle.palm_base.specs.Prefix.{IsPrefix, begins, digits_in, fault_text, is_no_digit, read_of};
+ghost use Rattle.palm_base.specs.Key.{key, digits_of, IsKey};
 ghost use Rattle.std.specs.List.{list_all, range_with_len};
 
 use std::error::Error;
@@ -57,6 +57,8 @@ pub enum DigitsFault {
 }
 
 impl fmt::Display for DigitsFault {
+    ghost output = { λ fault. Some (fault_text fault) };
+
     fn fmt<W: fmt::Write>(&self, f: &mut fmt::Formatter<W>) -> fmt::Result {
         match self {
             DigitsFault::Empty => write!(f, "no digits"),
@@ -141,6 +143,14 @@ impl Digits {
             return None;
         }
         Some(Digits { word })
+    }
+
+    /// The prefix with this key, at no cost, for a caller that has a key at hand.
+    pub fn of_key(word: u64) -> Digits
+        requires { IsKey word }
+        ensures { result ≡ digits_of word }
+    {
+        Digits { word }
     }
 
     /// The packed word. Keys stand in the order of their prefixes, and no two prefixes have one key.

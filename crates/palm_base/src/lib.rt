@@ -10,7 +10,7 @@ mod row;
 #[cfg(test)]
 mod tests;
 
-pub use amount::{Amount, Limit, MOST_RATE, MOST_ROWS};
+pub use amount::{Amount, Limit, MOST_LIMIT, MOST_RATE};
 pub use call::{Call, Entry, Reply};
 pub use digits::{Digits, DigitsFault, MOST_DIGITS};
 pub use memory::NoMemory;
