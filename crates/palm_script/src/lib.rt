@@ -9,6 +9,8 @@ mod output;
 mod print;
 mod script;
 mod standard;
+#[cfg(test)]
+mod tests;
 mod traits;
 
 pub use input::{Input, InputEnd, MOST_BYTES, read_input};

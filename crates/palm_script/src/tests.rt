@@ -1,0 +1,144 @@
+use super::*;
+use palm_base::{Amount, Digits, NoMemory, Reply, Row, RowList};
+use std::alloc::Global;
+use std::process::Abort;
+use std::test::Fail;
+
+fn bytes(alloc: Global, text: &str) -> Result<Vec<u8>, Fail> {
+    Ok(Vec::from_slice(alloc, text.as_bytes())?)
+}
+
+fn numbers(alloc: Global, list: &[u64]) -> Result<Vec<u64>, Fail> {
+    Ok(Vec::from_slice(alloc, list)?)
+}
+
+fn amount(rt: &impl Abort, value: u64) -> Amount {
+    Amount::new(value).expect(rt, "a rate")
+}
+
+fn row(rt: &impl Abort, prefix: &str, rate: u64) -> Row {
+    Row {
+        prefix: Digits::read(prefix.as_bytes()).expect(rt, "a prefix"),
+        rate: amount(rt, rate),
+    }
+}
+
+#[test]
+fn replies_are_printed(rt: HostRuntime) -> Result<(), Fail> {
+    let alloc = rt.alloc();
+    let mut rows = RowList::new(alloc);
+    rows.push(row(&rt, "12", 12))?;
+    rows.push(row(&rt, "013", 0))?;
+    let mut out = Vec::new(alloc);
+    print_reply(0, 0, &Reply::New, &mut out)?;
+    print_reply(1, 63, &Reply::Was(amount(&rt, 999_999_999_999)), &mut out)?;
+    print_reply(2, 7, &Reply::Gone(amount(&rt, 0)), &mut out)?;
+    print_reply(10, 7, &Reply::Absent, &mut out)?;
+    print_reply(11, 7, &Reply::Value(amount(&rt, 5)), &mut out)?;
+    print_reply(12, 7, &Reply::Hit(row(&rt, "44", 1_000)), &mut out)?;
+    print_reply(u64::MAX, 7, &Reply::Rows(rows), &mut out)?;
+    print_reply(14, 7, &Reply::Rows(RowList::new(alloc)), &mut out)?;
+    print_batch(8, &mut out)?;
+    print_end(8, 2, &mut out)?;
+    let lines =
+        "0 0 new\n1 63 was 999999999999\n2 7 gone 0\n10 7 absent\n11 7 value 5\n12 7 44 1000\n18446744073709551615 7 rows 2 12 12 013 0\n14 7 rows 0\n= 8\nend 8 2\n";
+    assert_eq!(rt; out.as_slice(), lines.as_bytes());
+    Ok(())
+}
+
+// Reads of 3 bytes, of which the reads 1 and 3 fail.
+#[test]
+fn a_source_in_memory_gives_pieces_and_fails_where_chosen(rt: HostRuntime) -> Result<(), Fail> {
+    let alloc = rt.alloc();
+    let mut src = MemSource::new(bytes(alloc, "abcdefgh")?, 3, numbers(alloc, &[1, 3])?);
+    for (room, want) in [
+        (2, Ok("ab")),
+        (9, Err(Failed)),
+        (9, Ok("cde")),
+        (9, Err(Failed)),
+        (9, Ok("fgh")),
+        (9, Ok("")),
+    ] {
+        let mut buf = [0u8; 9];
+        let got = src.read(&mut buf[..room]);
+        match want {
+            Ok(text) => assert_eq!(rt; buf.get(..got?), Some(text.as_bytes())),
+            Err(failed) => assert_eq!(rt; got, Err(failed)),
+        }
+    }
+    Ok(())
+}
+
+// Writes of 3 bytes into room for 7, of which the write 1 fails.
+#[test]
+fn a_sink_in_memory_takes_pieces_and_fails_where_chosen(rt: HostRuntime) -> Result<(), Fail> {
+    let alloc = rt.alloc();
+    let mut out = MemSink::new(alloc, 7, 3, numbers(alloc, &[1])?)?;
+    for (part, want) in [
+        ("abcd", Ok(3)),
+        ("d", Err(Failed)),
+        ("de", Ok(2)),
+        ("fgh", Ok(2)),
+        ("", Ok(0)),
+        ("h", Err(Failed)),
+    ] {
+        assert_eq!(rt; out.write(part.as_bytes()), want, "{part}");
+    }
+    assert_eq!(rt; out.taken(), b"abcdefg".as_slice());
+    Ok(())
+}
+
+#[test]
+fn sure_and_null_forms_never_fail(rt: HostRuntime) -> Result<(), Fail> {
+    let alloc = rt.alloc();
+    let mut src = SureSource::new(bytes(alloc, "abc")?);
+    let mut buf = [0u8; 2];
+    assert_eq!(rt; src.read(&mut buf), Ok(2));
+    assert_eq!(rt; buf, *b"ab");
+    assert_eq!(rt; src.read(&mut buf), Ok(1));
+    assert_eq!(rt; src.read(&mut buf), Ok(0));
+    assert_eq!(rt; NullSink.write(b"abc"), Ok(3));
+    Ok(())
+}
+
+#[test]
+fn a_source_is_read_to_its_end_or_fault(rt: HostRuntime) -> Result<(), Fail> {
+    let alloc = rt.alloc();
+    for (fail, text, end) in [
+        (9, "abcdefgh", InputEnd::Whole),
+        (2, "abcdef", InputEnd::Failed),
+    ] {
+        let mut src = MemSource::new(bytes(alloc, "abcdefgh")?, 3, numbers(alloc, &[fail])?);
+        let input = read_input(alloc, &mut src)?;
+        assert_eq!(rt; input.bytes.as_slice(), text.as_bytes());
+        assert_eq!(rt; input.end, end);
+    }
+    Ok(())
+}
+
+#[test]
+fn what_was_not_taken_is_offered_again(rt: HostRuntime) -> Result<(), Fail> {
+    let alloc = rt.alloc();
+    let mut out = MemSink::new(alloc, 8, 3, Vec::new(alloc))?;
+    assert_eq!(rt; write_all(&mut out, b"abcdefgh"), Ok(()));
+    assert_eq!(rt; write_all(&mut out, b""), Ok(()));
+    assert_eq!(rt; write_all(&mut out, b"i"), Err(Failed));
+    assert_eq!(rt; out.taken(), b"abcdefgh".as_slice());
+    Ok(())
+}
+
+// The forms over std's readers and writers, here in memory.
+#[test]
+fn standard_forms_pass_bytes_on(rt: HostRuntime) -> Result<(), Fail> {
+    let alloc = rt.alloc();
+    let mut src = StdSource::new(b"abc".as_slice());
+    let mut buf = [0u8; 2];
+    assert_eq!(rt; src.read(&mut buf), Ok(2));
+    assert_eq!(rt; buf, *b"ab");
+    assert_eq!(rt; src.read(&mut buf), Ok(1));
+    assert_eq!(rt; src.read(&mut buf), Ok(0));
+    let mut out = StdSink::new(Vec::new(alloc));
+    assert_eq!(rt; out.write(b"abc"), Ok(3));
+    assert_eq!(rt; out.write(b""), Ok(0));
+    Ok(())
+}
