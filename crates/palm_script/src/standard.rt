@@ -1,24 +1,38 @@
+ghost use Rattle.std.specs.Prelude.{◌≡◌};
+
 use crate::traits::{Failed, Sink, Source};
 use std::io::{Read, Write};
+use std::marker::Model;
 
-/// A source over a reader of std, as standard input. It raises its count of faults at each error.
+/// A source over a reader of std, as standard input. It raises its count of faults at each error. Contracts see the
+/// reader and the count.
 #[derive(Debug, Drop)]
 pub struct StdSource<R> {
     inner: R,
     faults: u64,
 }
 
+impl<R> Model for StdSource<R> {
+    ghost use Rattle.std.specs.Prelude.{ℕ};
+
+    ghost Value = { R × ℕ };
+
+    ghost view = { λ a. (a.inner, a.faults) };
+}
+
 impl<R> StdSource<R> {
-    /// A source over this reader.
-    pub fn new(inner: R) -> StdSource<R> {
+    /// A source over this reader, with no fault so far.
+    pub fn new(inner: R) -> StdSource<R>
+        ensures { result ≡ (inner, 0) }
+    {
         StdSource { inner, faults: 0 }
     }
 }
 
 impl<R: Read> Source for StdSource<R> {
-    ghost left = { λ s. R.remaining s.inner };
+    ghost left = { λ s. R.remaining s.0 };
 
-    ghost faults = { λ s. s.faults };
+    ghost faults = { λ s. s.1 };
 
     fn read(&mut self, buf: &mut [u8]) -> Result<usize, Failed> {
         match self.inner.read(buf) {
@@ -32,16 +46,27 @@ impl<R: Read> Source for StdSource<R> {
 }
 
 /// A sink over a writer of std, as standard output. Each write is flushed. It tells no bytes, and raises its count of
-/// faults at each error and where the writer takes nothing of a part that isn't empty.
+/// faults at each error and where the writer takes nothing of a part that isn't empty. Contracts see the writer and the
+/// count.
 #[derive(Debug, Drop)]
 pub struct StdSink<W> {
     inner: W,
     faults: u64,
 }
 
+impl<W> Model for StdSink<W> {
+    ghost use Rattle.std.specs.Prelude.{ℕ};
+
+    ghost Value = { W × ℕ };
+
+    ghost view = { λ a. (a.inner, a.faults) };
+}
+
 impl<W> StdSink<W> {
-    /// A sink over this writer.
-    pub fn new(inner: W) -> StdSink<W> {
+    /// A sink over this writer, with no fault so far.
+    pub fn new(inner: W) -> StdSink<W>
+        ensures { result ≡ (inner, 0) }
+    {
         StdSink { inner, faults: 0 }
     }
 }
@@ -51,7 +76,7 @@ impl<W: Write> Sink for StdSink<W> {
 
     ghost taken = { λ _. None };
 
-    ghost faults = { λ s. s.faults };
+    ghost faults = { λ s. s.1 };
 
     fn write(&mut self, part: &[u8]) -> Result<usize, Failed> {
         let written = self.inner.write(part);
