@@ -1,9 +1,10 @@
 -- Worked examples of the definitions, which the checker computes.
 use Rattle.std.proofs.Common.{◌≡◌, ℕ, true, false, List, [], ◌∷◌, refl}
-use Rattle.std.specs.Prelude.{codes, Ok, Err}
+use Rattle.std.specs.Prelude.{codes, map, replicate, length, Ok, Err}
 use Rattle.std.specs.Fmt.{digits}
 use Rattle.palm_base.specs.Prefix.{begins, comes_before, read_of, fault_text}
 use Rattle.palm_base.specs.Key.{key}
+use Rattle.palm_base.specs.Cut.{piece_count, piece_size, cut}
 use Rattle.palm_base.specs.Table.{answer, after}
 use Rattle.palm_base.specs.History.{replies_to, table_after, batches}
 use Rattle.palm_base.specs.declared.digits.DigitsFault.TheVariants.{Empty, Long, NotDigit}
@@ -171,3 +172,49 @@ history-after = refl
 history-batches : batches history (2 ∷ 3 ∷ [])
     ≡ (entry 0 (Set (4 ∷ 4 ∷ []) 5) ∷ entry 1 (Get (4 ∷ 4 ∷ [])) ∷ []) ∷ (entry 2 (Del (4 ∷ 4 ∷ [])) ∷ entry 3 (Get (4 ∷ 4 ∷ [])) ∷ entry 4 (Del (4 ∷ 4 ∷ [])) ∷ []) ∷ []
 history-batches = refl
+
+-- ---- cuts at the width 16
+
+-- How long the pieces of t items are.
+abbrev cut_lengths : ℕ → List ℕ
+cut_lengths t = map length (cut {X = ℕ} 16 (replicate t 0))
+
+cut-0 : cut_lengths 0 ≡ []
+unfolding cut
+cut-0 = refl
+
+cut-1 : cut_lengths 1 ≡ 1 ∷ []
+unfolding cut
+cut-1 = refl
+
+-- As many as the width are one piece.
+cut-16 : cut_lengths 16 ≡ 16 ∷ []
+unfolding cut
+cut-16 = refl
+
+-- One more makes two pieces, shared out evenly.
+cut-17 : cut_lengths 17 ≡ 9 ∷ 8 ∷ []
+unfolding cut
+cut-17 = refl
+
+cut-32 : cut_lengths 32 ≡ 16 ∷ 16 ∷ []
+unfolding cut
+cut-32 = refl
+
+cut-33 : cut_lengths 33 ≡ 11 ∷ 11 ∷ 11 ∷ []
+unfolding cut
+cut-33 = refl
+
+-- The larger pieces come first.
+cut-34 : cut_lengths 34 ≡ 12 ∷ 11 ∷ 11 ∷ []
+unfolding cut
+cut-34 = refl
+
+count-34 : piece_count 16 34 ≡ 3
+count-34 = refl
+
+size-first : piece_size 16 34 0 ≡ 12
+size-first = refl
+
+size-last : piece_size 16 34 2 ≡ 11
+size-last = refl

@@ -1,8 +1,10 @@
 -- The laws of the definitions, which the functions of the module of laws carry.
-use Rattle.std.specs.Prelude.{◌≡◌, ℕ, ◌<◌, List, length, slice_get, Some}
+use Rattle.std.specs.Prelude.{◌≡◌, ℕ, ◌+◌, ◌<◌, ◌≤◌, List, [], ◌∷◌, length, slice_get, Some}
 use Rattle.std.specs.Bool.{Decides}
+use Rattle.std.specs.List.{flat_map}
 use Rattle.palm_base.specs.Prefix.{IsPrefix, comes_before}
 use Rattle.palm_base.specs.Key.{key}
+use Rattle.palm_base.specs.Cut.{piece_count, piece_size, cut}
 use Rattle.palm_base.specs.Table.{IsTable, answer, after}
 use Rattle.palm_base.specs.History.{table_at, replies_to}
 use Rattle.palm_base.specs.declared.row.Row.{Row}
@@ -31,3 +33,28 @@ RepliesStandInPlace =
 -- A history has one reply for each entry.
 abbrev pub RepliesAreAsMany : Type 0
 RepliesAreAsMany = (rows : List Row) (entries : List Entry) → length (replies_to rows entries) ≡ length entries
+
+-- The pieces of a list, joined, are the list. So those of a, b, c at the width 2 join to a, b, c.
+abbrev pub PiecesJoin : Type 0 → Type 0
+PiecesJoin X = (width : ℕ) (items : List X) → 0 < width → flat_map (λ piece. piece) (cut width items) ≡ items
+
+-- A list has as many pieces as its length says. So one of 17 items has 2 at the width 16.
+abbrev pub PiecesAreCounted : Type 0 → Type 0
+PiecesAreCounted X = (width : ℕ) (items : List X) → length (cut width items) ≡ piece_count width (length items)
+
+-- The piece at a place has as many items as the list's length says. So the second of 17 items has 8 at the width 16.
+abbrev pub PiecesAreSized : Type 0 → Type 0
+PiecesAreSized X =
+    (width : ℕ) (items piece : List X) (i : ℕ) → 0 < width → slice_get (cut width items) i ≡ Some piece
+    → length piece ≡ piece_size width (length items) i
+
+-- Where there are more items than the width, each piece is at least half as wide, and no wider.
+-- So at the width 16 each piece of 17 items or more has 8 to 16.
+abbrev pub PiecesAreWide : Type 0 → Type 0
+PiecesAreWide X =
+    (half : ℕ) (items piece : List X) (i : ℕ) → 0 < half → half + half < length items
+    → slice_get (cut (half + half) items) i ≡ Some piece → (half ≤ length piece) × (length piece ≤ half + half)
+
+-- A list of at least one item and no more than the width is one piece.
+abbrev pub FewAreOnePiece : Type 0 → Type 0
+FewAreOnePiece X = (width : ℕ) (items : List X) → 0 < length items → length items ≤ width → cut width items ≡ items ∷ []

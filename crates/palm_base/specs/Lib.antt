@@ -1,3 +1,4 @@
+pub mod Cut
 pub mod History
 pub mod Key
 pub mod Laws

@@ -9,7 +9,7 @@ pub const MOST_RATE: u64 = 999_999_999_999;
 pub const MOST_LIMIT: u32 = 1_000;
 
 /// A rate: a whole number from 0 to `MOST_RATE`, in a unit that the user chooses. Contracts see the number.
-#[derive(Clone, Copy, Debug, PartialEq, Eq, PartialOrd, Ord, Hash)]
+#[derive(Clone, Copy, Debug, Default, PartialEq, Eq, PartialOrd, Ord, Hash)]
 pub struct Amount {
     value: u64,
 }

@@ -2,6 +2,7 @@
 #![tactic(auto)]
 
 mod amount;
+mod bounds;
 mod call;
 mod digits;
 pub mod laws;
@@ -11,6 +12,7 @@ mod row;
 mod tests;
 
 pub use amount::{Amount, Limit, MOST_LIMIT, MOST_RATE};
+pub use bounds::{LEAST_CHILDREN, LEAST_LEAF_ROWS, MOST_CHILDREN, MOST_LEAF_ROWS};
 pub use call::{Call, Entry, Reply};
 pub use digits::{Digits, DigitsFault, MOST_DIGITS};
 pub use memory::NoMemory;
