@@ -133,6 +133,8 @@ fn serve_all(rows: &mut Vec<Row>, batch: &[Entry], replies: &mut Vec<Reply>)
     ensures replies { replies.new.items ≡ replies.old.items ++ replies_to rows.old.items batch.now }
     ensures after { rows.new.items ≡ table_after rows.old.items batch.now }
     ensures table { IsTable rows.new.items }
+    ensures bound { vec_len rows.new ≤ vec_len rows.old + length batch.now }
+    ensures capacity { vec_capacity rows.new ≡ vec_capacity rows.old }
 {
     for entry in batch {
         replies.push_reserved(serve(rows, &entry.call));

@@ -9,6 +9,7 @@ invariant-loop-entry l = record {
   table : IsTable l.rows.items;
   told : l.replies.items ++ replies_to l.rows.items (drop l.entry-index l.batch) ≡ l.fn.replies.items ++ replies_to l.fn.rows.items l.batch;
   left : table_after l.rows.items (drop l.entry-index l.batch) ≡ table_after l.fn.rows.items l.batch;
-  room : vec_len l.rows + length l.batch ≤ vec_capacity l.rows + l.entry-index;
+  bound : vec_len l.rows ≤ vec_len l.fn.rows + l.entry-index;
+  capacity : vec_capacity l.rows ≡ vec_capacity l.fn.rows;
   reply_room : vec_len l.replies + length l.batch ≤ vec_capacity l.replies + l.entry-index;
 }
