@@ -1,5 +1,6 @@
 mod Appended
 pub mod Cuts
+pub mod Examples
 pub mod Faults
 pub mod Fields
 pub mod Lines
