@@ -1,0 +1,2 @@
+pub mod InnerNode
+pub mod LeafRows
