@@ -4,3 +4,4 @@ pub mod Key
 pub mod Laws
 pub mod Prefix
 pub mod Table
+pub mod Tree

@@ -8,6 +8,7 @@ mod digits;
 pub mod laws;
 mod memory;
 mod row;
+mod steps;
 #[cfg(test)]
 mod tests;
 
@@ -17,3 +18,4 @@ pub use call::{Call, Entry, Reply};
 pub use digits::{Digits, DigitsFault, MOST_DIGITS};
 pub use memory::NoMemory;
 pub use row::{Row, RowList};
+pub use steps::Steps;

@@ -1,5 +1,10 @@
+ghost use Rattle.std.specs.Prelude.{◌≡◌, ◌<◌};
+
 use super::*;
+use std::marker::Brand;
+use std::mem::size_of;
 use std::process::Abort;
+use std::sync::ledger::{Blank, Ledger};
 
 // The prefix that a text spells.
 fn digits(rt: &impl Abort, text: &[u8]) -> Digits {
@@ -109,4 +114,21 @@ fn keeps_rows(rt: HostRuntime) {
         }
         Err(_) => panic!(rt; "no memory"),
     }
+}
+
+// The steps of two ticks, with a counter of its own.
+fn ticks_twice<L: Ledger>(blank: Blank)
+    requires name { blank.name ≡ L.name }
+    requires parts { blank.parts ≡ L.parts }
+    requires some { 0 < blank.parts }
+{
+    let mut steps = Steps::<L>::new(blank);
+    steps.tick();
+    steps.tick();
+}
+
+#[test]
+fn counts_steps_in_no_bytes(rt: HostRuntime) {
+    ticks_twice::<Brand>(Blank::new(1));
+    assert_eq!(rt; size_of::<Steps<Brand>>(), 0);
 }
