@@ -6,3 +6,4 @@ pub mod KeyOrder
 pub mod Keys
 pub mod Replies
 pub mod Tables
+pub mod TreeExamples

@@ -1,7 +1,11 @@
 pub mod Cut
 pub mod History
 pub mod Key
+pub mod Lawful
 pub mod Laws
+pub mod Pass
 pub mod Prefix
+pub mod Shape
 pub mod Table
+pub mod Text
 pub mod Tree
