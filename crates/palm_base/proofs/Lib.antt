@@ -1,6 +1,7 @@
 pub mod Cuts
 pub mod Examples
 pub mod FromKey
+pub mod FrontSearch
 pub mod Fronts
 pub mod KeyOrder
 pub mod Keys

@@ -1,4 +1,5 @@
 pub mod Cut
+pub mod Fronts
 pub mod History
 pub mod Key
 pub mod Lawful
@@ -9,3 +10,4 @@ pub mod Shape
 pub mod Table
 pub mod Text
 pub mod Tree
+pub mod TreeLaws
