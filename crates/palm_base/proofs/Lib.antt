@@ -1,10 +1,14 @@
 pub mod Cuts
+pub mod Every
 pub mod Examples
 pub mod FromKey
 pub mod FrontSearch
 pub mod Fronts
 pub mod KeyOrder
 pub mod Keys
+pub mod Lows
+pub mod Pieces
+pub mod PrefixRows
 pub mod Replies
 pub mod Tables
 pub mod TreeExamples

@@ -4,6 +4,7 @@ pub mod History
 pub mod Key
 pub mod Lawful
 pub mod Laws
+pub mod Lows
 pub mod Pass
 pub mod Prefix
 pub mod Shape

@@ -4,11 +4,20 @@ use Rattle.std.specs.List.{AllByRecursion}
 use Rattle.palm_base.specs.Prefix.{IsPrefix}
 use Rattle.palm_base.specs.Table.{best_for}
 use Rattle.palm_base.specs.Fronts.{first_front}
+use Rattle.palm_base.specs.Tree.{Tree}
+use Rattle.palm_base.specs.Pass.{batch_tree}
+use Rattle.palm_base.specs.Lows.{PrefixesHold, SetsPrefix, LowsAreKeys}
 use Rattle.palm_base.specs.declared.row.Row.{Row}
+use Rattle.palm_base.specs.declared.call.Call.{Call}
 
 -- The row of the longest prefix that begins a number is the one that the fronts of the number find, from the whole
 -- number down. So for 442 the fronts 442, 44 and 4 are tried.
 abbrev pub FrontsFindTheBest : Type 0
 FrontsFindTheBest =
-    (rows : List Row) (number : List ℕ) → AllByRecursion (λ row. IsPrefix row.prefix) rows → IsPrefix number
+    (rows : List Row) (number : List ℕ) → PrefixesHold rows → IsPrefix number
     → best_for number rows ≡ first_front (length number) number rows
+
+-- A batch whose Sets are of prefixes keeps the lows of a tree keys, so that each can be printed as a prefix.
+-- So 17 Sets leave of the empty tree a root over two leaves, and the low of the second is the key of its first row.
+abbrev pub BatchesKeepLows : Type 0
+BatchesKeepLows = (tree : Tree) (calls : List Call) → LowsAreKeys tree → AllByRecursion SetsPrefix calls → LowsAreKeys (batch_tree tree calls)

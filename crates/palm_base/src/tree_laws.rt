@@ -1,9 +1,15 @@
 //! Further laws of tables and trees. Each function has an empty body: its contract is the law.
 
-ghost use Rattle.palm_base.specs.TreeLaws.{FrontsFindTheBest};
+ghost use Rattle.palm_base.specs.TreeLaws.{FrontsFindTheBest, BatchesKeepLows};
 
 /// The row by which a number is rated, that of the longest prefix that begins it, is found by looking up the fronts of
 /// the number, from the longest to the shortest.
 pub fn fronts_find_the_best()
     ensures { FrontsFindTheBest }
+{}
+
+/// A batch whose Sets are of prefixes keeps the lows of a tree keys of prefixes, all but a node's first, which is 0. So
+/// each can be printed as a prefix.
+pub fn batches_keep_lows()
+    ensures { BatchesKeepLows }
 {}
