@@ -7,8 +7,10 @@ pub mod Fronts
 pub mod KeyOrder
 pub mod Keys
 pub mod Lows
+pub mod OrphanSorts
 pub mod Pieces
 pub mod PrefixRows
 pub mod Replies
+pub mod SameTables
 pub mod Tables
 pub mod TreeExamples

@@ -1,11 +1,12 @@
 -- Further laws of tables and trees, which the functions of the module of tree laws carry.
-use Rattle.std.specs.Prelude.{◌≡◌, ℕ, List, length}
+use Rattle.std.specs.Prelude.{◌≡◌, ℕ, List, [], length, map}
 use Rattle.std.specs.List.{AllByRecursion}
+use Rattle.std.specs.List.Sorted.{IsPermutation}
 use Rattle.palm_base.specs.Prefix.{IsPrefix}
-use Rattle.palm_base.specs.Table.{best_for}
+use Rattle.palm_base.specs.Table.{IsTable, after_all, best_for}
 use Rattle.palm_base.specs.Fronts.{first_front}
 use Rattle.palm_base.specs.Tree.{Tree}
-use Rattle.palm_base.specs.Pass.{batch_tree}
+use Rattle.palm_base.specs.Pass.{set_of, base_pass, orphans_of, batch_tree}
 use Rattle.palm_base.specs.Lows.{PrefixesHold, SetsPrefix, LowsAreKeys}
 use Rattle.palm_base.specs.declared.row.Row.{Row}
 use Rattle.palm_base.specs.declared.call.Call.{Call}
@@ -21,3 +22,14 @@ FrontsFindTheBest =
 -- So 17 Sets leave of the empty tree a root over two leaves, and the low of the second is the key of its first row.
 abbrev pub BatchesKeepLows : Type 0
 BatchesKeepLows = (tree : Tree) (calls : List Call) → LowsAreKeys tree → AllByRecursion SetsPrefix calls → LowsAreKeys (batch_tree tree calls)
+
+-- The same rows in strictly rising order, by whatever sort, are what their Sets leave of the empty table.
+-- So the Sets of 2, 10 and 1 leave 1, 10 and 2.
+abbrev pub SortedRowsAreTheTable : Type 0
+SortedRowsAreTheTable = (rows sorted : List Row) → IsTable sorted → IsPermutation rows sorted → after_all [] (map set_of rows) ≡ sorted
+
+-- So the loose rows of a pass in strictly rising order, by whatever sort, are the orphans.
+abbrev pub SortedRowsAreTheOrphans : Type 0
+SortedRowsAreTheOrphans =
+    (tree : Tree) (edits : List Call) (sorted : List Row) → IsTable sorted → IsPermutation (base_pass tree.0 tree.1 edits).loose sorted
+    → orphans_of tree edits ≡ sorted

@@ -1,6 +1,6 @@
 //! Further laws of tables and trees. Each function has an empty body: its contract is the law.
 
-ghost use Rattle.palm_base.specs.TreeLaws.{FrontsFindTheBest, BatchesKeepLows};
+ghost use Rattle.palm_base.specs.TreeLaws.{FrontsFindTheBest, BatchesKeepLows, SortedRowsAreTheTable, SortedRowsAreTheOrphans};
 
 /// The row by which a number is rated, that of the longest prefix that begins it, is found by looking up the fronts of
 /// the number, from the longest to the shortest.
@@ -12,4 +12,11 @@ pub fn fronts_find_the_best()
 /// each can be printed as a prefix.
 pub fn batches_keep_lows()
     ensures { BatchesKeepLows }
+{}
+
+/// The rows that a pass leaves loose may be sorted by any means: the same rows in strictly rising order are the orphans.
+/// Of any rows these are what their Sets leave of the empty table.
+pub fn sorted_rows_are_the_orphans()
+    ensures table { SortedRowsAreTheTable }
+    ensures orphans { SortedRowsAreTheOrphans }
 {}
