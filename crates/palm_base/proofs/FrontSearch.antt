@@ -6,7 +6,7 @@ use Rattle.palm_base.specs.Prefix.{IsPrefix, begins}
 use Rattle.palm_base.specs.Key.{key}
 use Rattle.palm_base.specs.Table.{row_key, rate_at, longer, longest, best_for}
 use Rattle.palm_base.specs.Fronts.{row_or, first_front}
-use Rattle.palm_base.specs.TreeLaws.{FrontsFindTheBest}
+use Rattle.palm_base.specs.FurtherLaws.{FrontsFindTheBest}
 use Rattle.palm_base.proofs.KeyOrder.{keys_are_distinct}
 use Rattle.palm_base.proofs.Fronts.{front-is_prefix, begins-take, begins-long}
 use Rattle.palm_base.specs.declared.row.Row.{Row}

@@ -1,3 +1,4 @@
+pub mod Chains
 pub mod Cuts
 pub mod Every
 pub mod Examples
@@ -6,11 +7,16 @@ pub mod FrontSearch
 pub mod Fronts
 pub mod KeyOrder
 pub mod Keys
+pub mod LevelCounts
 pub mod Lows
 pub mod OrphanSorts
 pub mod Pieces
 pub mod PrefixRows
 pub mod Replies
+pub mod RisingRows
+pub mod RisingTables
 pub mod SameTables
+pub mod SoundNodes
+pub mod TableSplits
 pub mod Tables
 pub mod TreeExamples

@@ -8,7 +8,7 @@ use Rattle.palm_base.specs.Cut.{cut}
 use Rattle.palm_base.specs.Tree.{Subtree, Tree, rows_in}
 use Rattle.palm_base.specs.Pass.{is_edit, goes_left, goes_right, set_of, rows_under, first_low, with_lows, node_over, leaves_of, nodes_over, Outcome, joined, is_small, below, leaf_outcome, inner_outcome, pass, top, top_in, base_level, base_pass, orphans_of, passed_tree}
 use Rattle.palm_base.specs.Lows.{PrefixesHold, SetsPrefix, EachLowIsKey, LowsAreKeysIn, LowsAreKeys}
-use Rattle.palm_base.specs.TreeLaws.{BatchesKeepLows}
+use Rattle.palm_base.specs.FurtherLaws.{BatchesKeepLows}
 use Rattle.palm_base.proofs.Keys.{is_key}
 use Rattle.palm_base.proofs.Cuts.{pieces_join}
 use Rattle.palm_base.proofs.Pieces.{every_split, every_part, HasSome, pieces_have_some}

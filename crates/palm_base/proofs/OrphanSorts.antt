@@ -8,7 +8,7 @@ use Rattle.std.proofs.lemmas.List.Sums.{sum_by-append, sum_by-cons}
 use Rattle.std.proofs.lemmas.List.Sorted.{IsPermutation-refl, IsPermutation-sym, IsPermutation-trans, IsPermutation-cons, IsPermutation-middle, IsPermutation-append_left, sum_by-IsPermutation}
 use Rattle.palm_base.specs.Table.{row_key, put, after_all, IsTable}
 use Rattle.palm_base.specs.Pass.{set_of, base_pass}
-use Rattle.palm_base.specs.TreeLaws.{SortedRowsAreTheTable, SortedRowsAreTheOrphans}
+use Rattle.palm_base.specs.FurtherLaws.{SortedRowsAreTheTable, SortedRowsAreTheOrphans}
 use Rattle.palm_base.proofs.Tables.{Below, put_before, put_past, calls_keep_tables}
 use Rattle.palm_base.proofs.SameTables.{same_tables}
 use Rattle.palm_base.specs.declared.row.Row.{Row}

@@ -1,5 +1,6 @@
 pub mod Cut
 pub mod Fronts
+pub mod FurtherLaws
 pub mod History
 pub mod Key
 pub mod Lawful
@@ -11,4 +12,3 @@ pub mod Shape
 pub mod Table
 pub mod Text
 pub mod Tree
-pub mod TreeLaws

@@ -1,6 +1,6 @@
 //! Further laws of tables and trees. Each function has an empty body: its contract is the law.
 
-ghost use Rattle.palm_base.specs.TreeLaws.{FrontsFindTheBest, BatchesKeepLows, SortedRowsAreTheTable, SortedRowsAreTheOrphans};
+ghost use Rattle.palm_base.specs.FurtherLaws.{FrontsFindTheBest, BatchesKeepLows, SortedRowsAreTheTable, SortedRowsAreTheOrphans, HighTreesHoldMany, LawfulTreesAreLow};
 
 /// The row by which a number is rated, that of the longest prefix that begins it, is found by looking up the fronts of
 /// the number, from the longest to the shortest.
@@ -19,4 +19,11 @@ pub fn batches_keep_lows()
 pub fn sorted_rows_are_the_orphans()
     ensures table { SortedRowsAreTheTable }
     ensures orphans { SortedRowsAreTheOrphans }
+{}
+
+/// A lawful tree of many levels has many rows. Since there are only so many prefixes, it has at most `MOST_LEVELS` levels
+/// where its rows go by prefixes.
+pub fn lawful_trees_are_low()
+    ensures rows { HighTreesHoldMany }
+    ensures levels { LawfulTreesAreLow }
 {}

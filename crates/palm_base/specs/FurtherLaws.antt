@@ -1,13 +1,15 @@
 -- Further laws of tables and trees, which the functions of the module of tree laws carry.
-use Rattle.std.specs.Prelude.{◌≡◌, ℕ, List, [], length, map}
+use Rattle.std.specs.Prelude.{◌≡◌, ℕ, ◌+◌, ◌*◌, ◌^◌, ◌≤◌, List, [], length, map}
 use Rattle.std.specs.List.{AllByRecursion}
 use Rattle.std.specs.List.Sorted.{IsPermutation}
 use Rattle.palm_base.specs.Prefix.{IsPrefix}
 use Rattle.palm_base.specs.Table.{IsTable, after_all, best_for}
 use Rattle.palm_base.specs.Fronts.{first_front}
-use Rattle.palm_base.specs.Tree.{Tree}
+use Rattle.palm_base.specs.Tree.{Tree, levels_of, rows_of}
 use Rattle.palm_base.specs.Pass.{set_of, base_pass, orphans_of, batch_tree}
+use Rattle.palm_base.specs.Lawful.{IsLawful}
 use Rattle.palm_base.specs.Lows.{PrefixesHold, SetsPrefix, LowsAreKeys}
+use Rattle.palm_base.specs.declared.bounds.TheConstants.{LEAST_LEAF_ROWS, LEAST_CHILDREN, MOST_LEVELS}
 use Rattle.palm_base.specs.declared.row.Row.{Row}
 use Rattle.palm_base.specs.declared.call.Call.{Call}
 
@@ -33,3 +35,13 @@ abbrev pub SortedRowsAreTheOrphans : Type 0
 SortedRowsAreTheOrphans =
     (tree : Tree) (edits : List Call) (sorted : List Row) → IsTable sorted → IsPermutation (base_pass tree.0 tree.1 edits).loose sorted
     → orphans_of tree edits ≡ sorted
+
+-- A lawful tree of many levels has many rows: of two levels two least leaves, and of each level more as many times more as
+-- an inner node has children at least. So with leaves of 8 rows and nodes of 8 children one of three levels has 128.
+abbrev pub HighTreesHoldMany : Type 0
+HighTreesHoldMany =
+    (tree : Tree) (n : ℕ) → IsLawful tree → levels_of tree ≡ n + 2 → 2 * (LEAST_LEAF_ROWS * LEAST_CHILDREN ^ n) ≤ length (rows_of tree)
+
+-- A lawful tree whose rows go by prefixes has at most MOST_LEVELS levels, since there are only so many prefixes.
+abbrev pub LawfulTreesAreLow : Type 0
+LawfulTreesAreLow = (tree : Tree) → IsLawful tree → PrefixesHold (rows_of tree) → levels_of tree ≤ MOST_LEVELS
