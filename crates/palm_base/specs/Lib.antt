@@ -9,3 +9,4 @@ pub mod Shape
 pub mod Table
 pub mod Text
 pub mod Tree
+pub mod TreeLaws
