@@ -4,9 +4,9 @@ use Rattle.std.specs.Prelude.{nat_lt}
 use Rattle.std.proofs.lemmas.Bool.{or_cases, and_parts, ltb-true, eqb-true, cases_lt}
 use Rattle.std.proofs.lemmas.List.{length-append}
 use Rattle.std.proofs.Math.Nat.{mul-le-mul_right, pow-suc, one-le-pow, pow-le-pow_right}
-use Rattle.palm_base.specs.Prefix.{AreDigits, IsPrefix, comes_before}
-use Rattle.palm_base.specs.Table.{row_key, IsTable}
-use Rattle.palm_base.specs.Tree.{Subtree, Tree, levels_of, rows_in, rows_of}
+use Rattle.palm_base.specs.Prefix.{AreDigits, comes_before}
+use Rattle.palm_base.specs.Table.{IsTable}
+use Rattle.palm_base.specs.Tree.{Subtree, rows_in}
 use Rattle.palm_base.specs.Pass.{rows_under}
 use Rattle.palm_base.specs.Lawful.{Sound, InOrder, Root}
 use Rattle.palm_base.specs.Lows.{PrefixesHold}

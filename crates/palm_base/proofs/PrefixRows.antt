@@ -1,29 +1,20 @@
 -- Calls whose Sets are of prefixes leave rows that go by prefixes.
-use Rattle.std.proofs.Common.{◌≡◌, ◌<◌, Bool, not, ◌==◌, List, [], ◌∷◌, map, filter, ◌⊎◌, inl, inr}
+use Rattle.std.proofs.Common.{Bool, not, ◌==◌, List, [], ◌∷◌, map, filter}
 use Rattle.std.specs.List.{AllByRecursion}
-use Rattle.std.proofs.lemmas.Bool.{cases_order}
 use Rattle.palm_base.specs.Prefix.{IsPrefix}
 use Rattle.palm_base.specs.Key.{key}
-use Rattle.palm_base.specs.Table.{row_key, put, after, after_all}
+use Rattle.palm_base.specs.Table.{row_key, after, after_all}
 use Rattle.palm_base.specs.Pass.{set_of}
 use Rattle.palm_base.specs.Lows.{PrefixesHold, SetsPrefix}
-use Rattle.palm_base.proofs.Tables.{put_before, put_at, put_past}
+use Rattle.palm_base.proofs.Tables.{every_put}
 use Rattle.palm_base.proofs.Every.{every_filter}
 use Rattle.palm_base.specs.declared.row.Row.{Row}
 use Rattle.palm_base.specs.declared.call.Call.{Call}
 use Rattle.palm_base.specs.declared.call.Call.TheVariants.{Set, Del, Get, Rate, List as Listing}
 
-prefixes_put : (new : Row) (rows : List Row) → IsPrefix new.prefix → PrefixesHold rows → PrefixesHold (put new rows)
-prefixes_put new [] own all = (own, tt)
-prefixes_put new (row ∷ rows) own all = by (prefixes_put new rows own all.1) (cases_order (row_key new) (row_key row))
-  where
-    by : PrefixesHold (put new rows) → (row_key new ≡ row_key row) ⊎ ((row_key new < row_key row) ⊎ (row_key row < row_key new)) → PrefixesHold (put new (row ∷ rows))
-    by rest (inl same) = rw (put_at new row rows same) (own, all.1)
-    by rest (inr (inl less)) = rw (put_before new row rows less) (own, all)
-    by rest (inr (inr more)) = rw (put_past new row rows more) (all.0, rest)
-
 prefixes_after : (rows : List Row) (call : Call) → PrefixesHold rows → SetsPrefix call → PrefixesHold (after rows call)
-prefixes_after rows (Set prefix rate) all sets = prefixes_put (record { prefix = prefix; rate = rate }) rows sets all
+prefixes_after rows (Set prefix rate) all sets =
+    every_put (λ row. IsPrefix row.prefix) (record { prefix = prefix; rate = rate }) rows sets all
 prefixes_after rows (Del prefix) all sets =
     every_filter (λ row. IsPrefix row.prefix) (λ row. IsPrefix row.prefix) (λ row. not (row_key row == key prefix)) (λ row own passes. own) rows all
 prefixes_after rows (Get prefix) all sets = all

@@ -1,6 +1,5 @@
 -- Rows that rise between two keys are a table, and a table rises between any two keys that its rows lie between.
-use Rattle.std.proofs.Common.{ℕ, suc, ◌<◌, ◌≤◌, List, [], ◌∷◌, arith}
-use Rattle.std.specs.List.{AllByRecursion}
+use Rattle.std.proofs.Common.{ℕ, suc, ◌<◌, List, [], ◌∷◌, arith}
 use Rattle.palm_base.specs.Table.{row_key, IsTable}
 use Rattle.palm_base.specs.Lawful.{RowIsIn, Rising}
 use Rattle.palm_base.proofs.Every.{every_weaker}

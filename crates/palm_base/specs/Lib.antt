@@ -12,3 +12,4 @@ pub mod Shape
 pub mod Table
 pub mod Text
 pub mod Tree
+pub mod TreeLaws
