@@ -11,6 +11,8 @@ pub mod Histories
 pub mod KeyOrder
 pub mod Keys
 pub mod LevelCounts
+pub mod LiteralPlaces
+pub mod LiteralTrees
 pub mod Lows
 pub mod OrphanSorts
 pub mod Orphans

@@ -5,9 +5,10 @@ use Rattle.std.specs.List.Sorted.{IsPermutation}
 use Rattle.palm_base.specs.Prefix.{IsPrefix}
 use Rattle.palm_base.specs.Table.{IsTable, after_all, best_for}
 use Rattle.palm_base.specs.Fronts.{first_front}
-use Rattle.palm_base.specs.Tree.{Tree, levels_of, rows_of}
-use Rattle.palm_base.specs.Pass.{set_of, base_pass, orphans_of, batch_tree}
+use Rattle.palm_base.specs.Tree.{Subtree, Tree, levels_of, rows_of}
+use Rattle.palm_base.specs.Pass.{set_of, Outcome, below, base_pass, orphans_of, batch_tree}
 use Rattle.palm_base.specs.Lawful.{IsLawful}
+use Rattle.palm_base.specs.Literal.{below_by_place, LowsRise, IsLawfulLiterally}
 use Rattle.palm_base.specs.Lows.{PrefixesHold, SetsPrefix, LowsAreKeys}
 use Rattle.palm_base.specs.declared.bounds.TheConstants.{LEAST_LEAF_ROWS, LEAST_CHILDREN, MOST_LEVELS}
 use Rattle.palm_base.specs.declared.row.Row.{Row}
@@ -45,3 +46,14 @@ HighTreesHoldMany =
 -- A lawful tree whose rows go by prefixes has at most MOST_LEVELS levels, since there are only so many prefixes.
 abbrev pub LawfulTreesAreLow : Type 0
 LawfulTreesAreLow = (tree : Tree) → IsLawful tree → PrefixesHold (rows_of tree) → levels_of tree ≤ MOST_LEVELS
+
+-- Splitting the edits at each next low sends each to the last child whose low is at most its key, where the lows rise.
+-- They do in each inner node of a lawful tree.
+abbrev pub EditsGoByPlace : Type 0
+EditsGoByPlace =
+    (n : ℕ) (go : ℕ → Subtree n → List Call → Outcome n) (children : List (ℕ × Subtree n)) (edits : List Call) → LowsRise children
+    → below n go children edits ≡ below_by_place n go children edits
+
+-- A tree is lawful exactly where it is so literally.
+abbrev pub LawIsLiteral : Type 0
+LawIsLiteral = (tree : Tree) → (IsLawful tree → IsLawfulLiterally tree) × (IsLawfulLiterally tree → IsLawful tree)

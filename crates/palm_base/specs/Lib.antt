@@ -5,6 +5,7 @@ pub mod History
 pub mod Key
 pub mod Lawful
 pub mod Laws
+pub mod Literal
 pub mod Lows
 pub mod Pass
 pub mod Prefix

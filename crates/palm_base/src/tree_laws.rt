@@ -1,6 +1,6 @@
 //! Further laws of tables and trees. Each function has an empty body: its contract is the law.
 
-ghost use Rattle.palm_base.specs.FurtherLaws.{FrontsFindTheBest, BatchesKeepLows, SortedRowsAreTheTable, SortedRowsAreTheOrphans, HighTreesHoldMany, LawfulTreesAreLow};
+ghost use Rattle.palm_base.specs.FurtherLaws.{FrontsFindTheBest, BatchesKeepLows, SortedRowsAreTheTable, SortedRowsAreTheOrphans, HighTreesHoldMany, LawfulTreesAreLow, EditsGoByPlace, LawIsLiteral};
 
 /// The row by which a number is rated, that of the longest prefix that begins it, is found by looking up the fronts of
 /// the number, from the longest to the shortest.
@@ -26,4 +26,12 @@ pub fn sorted_rows_are_the_orphans()
 pub fn lawful_trees_are_low()
     ensures rows { HighTreesHoldMany }
     ensures levels { LawfulTreesAreLow }
+{}
+
+/// Two rules that are defined in a form that computes are what one would say first. An edit goes to the last child whose
+/// low is at most its key. A tree is lawful where its rows strictly rise, its nodes are filled, the lows of a node strictly
+/// rise from 0, and each row under a child has a key from the child's low on and below the low of the next.
+pub fn rules_are_literal()
+    ensures places { EditsGoByPlace }
+    ensures lawful { LawIsLiteral }
 {}
