@@ -10,7 +10,9 @@ pub mod Fronts
 pub mod Histories
 pub mod KeyOrder
 pub mod Keys
+pub mod LawExamples
 pub mod LevelCounts
+pub mod LiteralPasses
 pub mod LiteralPlaces
 pub mod LiteralTrees
 pub mod Lows

@@ -118,7 +118,7 @@ sound_node : (n l h : ℕ) (node : Subtree n) → Sound n l h node → IsNode n 
 sound_node zero l h rows sound = sound.0
 sound_node (suc n) l h children sound = (sound.0, separated n l h children sound.1 sound.2, each_node n (sound_node n) l h children sound.2)
 
-root_to : (n h : ℕ) (node : Subtree n) → Root n h node → IsRoot n node × Rising 0 h (rows_in n node)
+pub root_to : (n h : ℕ) (node : Subtree n) → Root n h node → IsRoot n node × Rising 0 h (rows_in n node)
 root_to zero h rows root = root
 root_to (suc n) h children root =
     ((root.0, separated n 0 h children root.1 root.2, each_node n (sound_node n) 0 h children root.2), in_order_rises n 0 h children root.2)

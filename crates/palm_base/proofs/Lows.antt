@@ -1,14 +1,16 @@
 -- Batches keep lows keys: each low that a pass makes is one that its node had, or the key of a row.
-use Rattle.std.proofs.Common.{ℕ, zero, suc, Bool, true, false, cond, nat_le, List, [], ◌∷◌, ◌++◌, length, map, drop, filter, refl, arith}
+use Rattle.std.proofs.Common.{ℕ, zero, suc, Bool, true, false, cond, nat_le, List, [], ◌∷◌, ◌++◌, length, map, take, drop, filter, refl, arith}
 use Rattle.std.specs.List.{flat_map, AllByRecursion}
+use Rattle.std.proofs.lemmas.List.{take-append-drop}
 use Rattle.palm_base.specs.Prefix.{IsPrefix}
 use Rattle.palm_base.specs.Key.{IsKey}
 use Rattle.palm_base.specs.Table.{row_key, after_all}
 use Rattle.palm_base.specs.Cut.{cut}
 use Rattle.palm_base.specs.Tree.{Subtree, Tree, rows_in}
-use Rattle.palm_base.specs.Pass.{is_edit, goes_left, goes_right, set_of, rows_under, first_low, with_lows, node_over, leaves_of, nodes_over, Outcome, joined, is_small, below, leaf_outcome, inner_outcome, pass, top, top_in, base_level, base_pass, orphans_of, passed_tree}
+use Rattle.palm_base.specs.Pass.{is_edit, goes_left, goes_right, set_of, rows_under, first_low, with_lows, node_over, leaves_of, nodes_over, Outcome, joined, is_small, below, leaf_outcome, inner_outcome, pass, top, top_in, base_level, base_pass, orphans_of, passed_tree, batch_tree}
+use Rattle.palm_base.specs.History.{calls_of}
 use Rattle.palm_base.specs.Lows.{PrefixesHold, SetsPrefix, EachLowIsKey, LowsAreKeysIn, LowsAreKeys}
-use Rattle.palm_base.specs.FurtherLaws.{BatchesKeepLows}
+use Rattle.palm_base.specs.FurtherLaws.{BatchesKeepLows, CuttingsKeepLows}
 use Rattle.palm_base.proofs.Keys.{is_key}
 use Rattle.palm_base.proofs.Cuts.{pieces_join}
 use Rattle.palm_base.proofs.Pieces.{every_split, every_part, HasSome, pieces_have_some}
@@ -17,6 +19,7 @@ use Rattle.palm_base.proofs.Every.{every_append}
 use Rattle.palm_base.specs.declared.bounds.TheConstants.{LEAST_LEAF_ROWS, MOST_LEAF_ROWS, LEAST_CHILDREN, MOST_CHILDREN}
 use Rattle.palm_base.specs.declared.row.Row.{Row}
 use Rattle.palm_base.specs.declared.call.Call.{Call}
+use Rattle.palm_base.specs.declared.call.Entry.{Entry}
 
 -- ---- nodes made of parts
 
@@ -187,3 +190,14 @@ batches_keep_lows tree calls keys sets =
     let fair = base_fair tree.0 tree.1 edits keys own in
     let orphans = prefixes_all [] (map set_of (base_pass tree.0 tree.1 edits).loose) tt (sets_prefixes (base_pass tree.0 tree.1 edits).loose fair.loose) in
     passed_keys (passed_tree tree edits) (map set_of (orphans_of tree edits)) (passed_keys tree edits keys own) (sets_prefixes (orphans_of tree edits) orphans)
+
+calls_prefix : (entries : List Entry) → AllByRecursion (λ entry. SetsPrefix entry.call) entries → AllByRecursion SetsPrefix (calls_of entries)
+calls_prefix [] sets = tt
+calls_prefix (entry ∷ entries) sets = (sets.0, calls_prefix entries sets.1)
+
+pub cuttings_keep_lows : CuttingsKeepLows
+cuttings_keep_lows tree entries [] keys sets = keys
+cuttings_keep_lows tree entries (n ∷ lengths) keys sets =
+    let both = every_split (λ entry. SetsPrefix entry.call) (take n entries) (drop n entries) (rw take-append-drop sets) in
+    let batch = calls_of (take n entries) in
+    cuttings_keep_lows (batch_tree tree batch) (drop n entries) lengths (batches_keep_lows tree batch keys (calls_prefix (take n entries) both.0)) both.1

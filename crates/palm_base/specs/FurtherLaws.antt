@@ -6,13 +6,14 @@ use Rattle.palm_base.specs.Prefix.{IsPrefix}
 use Rattle.palm_base.specs.Table.{IsTable, after_all, best_for}
 use Rattle.palm_base.specs.Fronts.{first_front}
 use Rattle.palm_base.specs.Tree.{Subtree, Tree, levels_of, rows_of}
-use Rattle.palm_base.specs.Pass.{set_of, Outcome, below, base_pass, orphans_of, batch_tree}
+use Rattle.palm_base.specs.Pass.{set_of, Outcome, below, base_pass, orphans_of, batch_tree, tree_after}
 use Rattle.palm_base.specs.Lawful.{IsLawful}
-use Rattle.palm_base.specs.Literal.{below_by_place, LowsRise, IsLawfulLiterally}
+use Rattle.palm_base.specs.Literal.{below_by_place, base_pass_by_place, LowsRise, IsLawfulLiterally}
 use Rattle.palm_base.specs.Lows.{PrefixesHold, SetsPrefix, LowsAreKeys}
 use Rattle.palm_base.specs.declared.bounds.TheConstants.{LEAST_LEAF_ROWS, LEAST_CHILDREN, MOST_LEVELS}
 use Rattle.palm_base.specs.declared.row.Row.{Row}
 use Rattle.palm_base.specs.declared.call.Call.{Call}
+use Rattle.palm_base.specs.declared.call.Entry.{Entry}
 
 -- The row of the longest prefix that begins a number is the one that the fronts of the number find, from the whole
 -- number down. So for 442 the fronts 442, 44 and 4 are tried.
@@ -25,6 +26,12 @@ FrontsFindTheBest =
 -- So 17 Sets leave of the empty tree a root over two leaves, and the low of the second is the key of its first row.
 abbrev pub BatchesKeepLows : Type 0
 BatchesKeepLows = (tree : Tree) (calls : List Call) → LowsAreKeys tree → AllByRecursion SetsPrefix calls → LowsAreKeys (batch_tree tree calls)
+
+-- However a history is cut, its tree keeps lows keys where its Sets are of prefixes.
+abbrev pub CuttingsKeepLows : Type 0
+CuttingsKeepLows =
+    (tree : Tree) (entries : List Entry) (lengths : List ℕ) → LowsAreKeys tree → AllByRecursion (λ entry. SetsPrefix entry.call) entries
+    → LowsAreKeys (tree_after tree entries lengths)
 
 -- The same rows in strictly rising order, by whatever sort, are what their Sets leave of the empty table.
 -- So the Sets of 2, 10 and 1 leave 1, 10 and 2.
@@ -53,6 +60,10 @@ abbrev pub EditsGoByPlace : Type 0
 EditsGoByPlace =
     (n : ℕ) (go : ℕ → Subtree n → List Call → Outcome n) (children : List (ℕ × Subtree n)) (edits : List Call) → LowsRise children
     → below n go children edits ≡ below_by_place n go children edits
+
+-- So a pass through a lawful tree sends each edit, at each inner node, to the last child whose low is at most its key.
+abbrev pub PassesGoByPlace : Type 0
+PassesGoByPlace = (tree : Tree) (edits : List Call) → IsLawful tree → base_pass tree.0 tree.1 edits ≡ base_pass_by_place tree.0 tree.1 edits
 
 -- A tree is lawful exactly where it is so literally.
 abbrev pub LawIsLiteral : Type 0

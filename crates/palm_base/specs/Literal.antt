@@ -3,9 +3,9 @@
 use Rattle.std.specs.Prelude.{◌≡◌, ℕ, ◌+◌, ◌<◌, ◌≤◌, ◌==◌, nat_le, Bool, false, ◌||◌, if◌then◌else◌, List, [], ◌∷◌, length, filter}
 use Rattle.std.specs.List.{AllByRecursion}
 use Rattle.std.proofs.Common.{zero, suc}
-use Rattle.palm_base.specs.Table.{row_key, IsTable}
+use Rattle.palm_base.specs.Table.{row_key, IsTable, after_all}
 use Rattle.palm_base.specs.Tree.{Subtree, Tree, rows_in, rows_of}
-use Rattle.palm_base.specs.Pass.{edit_key, first_low, Outcome, joined}
+use Rattle.palm_base.specs.Pass.{edit_key, first_low, leaves_of, Outcome, joined, leaf_outcome, inner_outcome, base_level}
 use Rattle.palm_base.specs.Lawful.{HasFromTo}
 use Rattle.palm_base.specs.declared.bounds.TheConstants.{LEAST_LEAF_ROWS, MOST_LEAF_ROWS, LEAST_CHILDREN, MOST_CHILDREN}
 use Rattle.palm_base.specs.declared.call.Call.{Call}
@@ -31,6 +31,16 @@ by_place n go place_of place (child ∷ children) edits =
 -- What becomes of children: each edit goes to the last child whose low is at most the edit's key.
 abbrev pub below_by_place : (n : ℕ) → (ℕ → Subtree n → List Call → Outcome n) → List (ℕ × Subtree n) → List Call → Outcome n
 below_by_place n go children edits = by_place n go (λ edit. last_place (edit_key edit) children) 0 children edits
+
+-- What becomes of a node below the root, where each edit goes by its place.
+unfoldable pub pass_by_place : (n : ℕ) → ℕ → Subtree n → List Call → Outcome n
+pass_by_place zero low rows edits = leaf_outcome low (after_all rows edits)
+pass_by_place (suc n) low children edits = inner_outcome n low (below_by_place n (pass_by_place n) children edits)
+
+-- And of what is under a root.
+abbrev pub base_pass_by_place : (n : ℕ) → Subtree n → List Call → Outcome (base_level n)
+base_pass_by_place zero rows edits = record { pieces = leaves_of 0 (after_all rows edits); loose = [] }
+base_pass_by_place (suc n) children edits = below_by_place n (pass_by_place n) children edits
 
 -- ---- what makes a tree lawful
 

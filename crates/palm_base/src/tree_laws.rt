@@ -1,6 +1,6 @@
 //! Further laws of tables and trees. Each function has an empty body: its contract is the law.
 
-ghost use Rattle.palm_base.specs.FurtherLaws.{FrontsFindTheBest, BatchesKeepLows, SortedRowsAreTheTable, SortedRowsAreTheOrphans, HighTreesHoldMany, LawfulTreesAreLow, EditsGoByPlace, LawIsLiteral};
+ghost use Rattle.palm_base.specs.FurtherLaws.{FrontsFindTheBest, BatchesKeepLows, CuttingsKeepLows, SortedRowsAreTheTable, SortedRowsAreTheOrphans, HighTreesHoldMany, LawfulTreesAreLow, EditsGoByPlace, PassesGoByPlace, LawIsLiteral};
 
 /// The row by which a number is rated, that of the longest prefix that begins it, is found by looking up the fronts of
 /// the number, from the longest to the shortest.
@@ -9,9 +9,10 @@ pub fn fronts_find_the_best()
 {}
 
 /// A batch whose Sets are of prefixes keeps the lows of a tree keys of prefixes, all but a node's first, which is 0. So
-/// each can be printed as a prefix.
+/// each can be printed as a prefix. So does a history, however it is cut.
 pub fn batches_keep_lows()
-    ensures { BatchesKeepLows }
+    ensures batch { BatchesKeepLows }
+    ensures history { CuttingsKeepLows }
 {}
 
 /// The rows that a pass leaves loose may be sorted by any means: the same rows in strictly rising order are the orphans.
@@ -33,5 +34,6 @@ pub fn lawful_trees_are_low()
 /// rise from 0, and each row under a child has a key from the child's low on and below the low of the next.
 pub fn rules_are_literal()
     ensures places { EditsGoByPlace }
+    ensures passes { PassesGoByPlace }
     ensures lawful { LawIsLiteral }
 {}
