@@ -8,6 +8,7 @@ pub mod FromKey
 pub mod FrontSearch
 pub mod Fronts
 pub mod Histories
+pub mod KeyCounts
 pub mod KeyOrder
 pub mod Keys
 pub mod LawExamples
@@ -19,6 +20,7 @@ pub mod Lows
 pub mod OrphanSorts
 pub mod Orphans
 pub mod Outcomes
+pub mod PassCounts
 pub mod Passes
 pub mod Pieces
 pub mod PrefixRows

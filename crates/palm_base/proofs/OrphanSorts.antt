@@ -1,46 +1,19 @@
 -- Rows in rising order, however they were sorted, are the table that their Sets make.
-use Rattle.std.proofs.Common.{◌≡◌, ℕ, ◌+◌, ◌<◌, ◌≤◌, cond, ◌==◌, List, [], ◌∷◌, ◌++◌, map, refl, sym, ap, ◌∙◌, arith, ◌⊎◌, inl, inr}
+use Rattle.std.proofs.Common.{◌≡◌, ℕ, ◌+◌, ◌<◌, ◌≤◌, List, [], ◌∷◌, ◌++◌, map, refl, sym, ap, ◌∙◌, arith, ◌⊎◌, inl, inr}
 use Rattle.std.specs.List.{sum_by}
 use Rattle.std.specs.List.Sorted.{IsPermutation}
-use Rattle.std.proofs.lemmas.Bool.{cases_order, eq-eqb, ne_eqb}
+use Rattle.std.proofs.lemmas.Bool.{cases_order}
 use Rattle.std.proofs.lemmas.List.{append-nil}
 use Rattle.std.proofs.lemmas.List.Sums.{sum_by-append, sum_by-cons}
 use Rattle.std.proofs.lemmas.List.Sorted.{IsPermutation-refl, IsPermutation-sym, IsPermutation-trans, IsPermutation-cons, IsPermutation-middle, IsPermutation-append_left, sum_by-IsPermutation}
 use Rattle.palm_base.specs.Table.{row_key, put, after_all, IsTable}
 use Rattle.palm_base.specs.Pass.{set_of, base_pass}
-use Rattle.palm_base.specs.FurtherLaws.{SortedRowsAreTheTable, SortedRowsAreTheOrphans}
-use Rattle.palm_base.proofs.Tables.{Below, put_before, put_past, calls_keep_tables}
+use Rattle.palm_base.specs.FurtherLaws.{SortedRowsAreTheTable, AnySortMakesTheOrphans}
+use Rattle.palm_base.proofs.Tables.{put_before, put_past, calls_keep_tables}
 use Rattle.palm_base.proofs.SameTables.{same_tables}
+use Rattle.palm_base.proofs.KeyCounts.{has, has_key, one_each, distinct_is_table}
+use Rattle.palm_base.proofs.PassCounts.{loose_once}
 use Rattle.palm_base.specs.declared.row.Row.{Row}
-
--- ---- how many rows have a key
-
--- 1 for a row with this key, and 0 for another.
-abbrev has : ℕ → Row → ℕ
-has k row = cond (row_key row == k) 1 0
-
-has_key : (k : ℕ) (row : Row) → row_key row ≡ k → has k row ≡ 1
-has_key k row same = rw (eq-eqb (row_key row) k same) refl
-
-has_other : (k : ℕ) (row : Row) → (row_key row ≡ k → ⊥) → has k row ≡ 0
-has_other k row other = rw (ne_eqb (row_key row) k other) refl
-
-none_below : (k : ℕ) (rows : List Row) → Below k rows → sum_by (has k) rows ≡ 0
-none_below k [] below = refl
-none_below k (row ∷ rows) below = let none = has_other k row (λ same. omega (arith, below.0)) in let rest = none_below k rows below.1 in rw sum_by-cons (omega arith)
-
-one_each : (k : ℕ) (rows : List Row) → IsTable rows → sum_by (has k) rows ≤ 1
-one_each k [] table = omega arith
-one_each k (row ∷ rows) table = rw sum_by-cons (by (one_each k rows table.1) (cases_order (row_key row) k))
-  where
-    by : sum_by (has k) rows ≤ 1 → (row_key row ≡ k) ⊎ ((row_key row < k) ⊎ (k < row_key row)) → has k row + sum_by (has k) rows ≤ 1
-    by rest (inl same) =
-        let below : Below k rows = rw same at table.0 in
-        let one = has_key k row same in
-        let none = none_below k rows below in
-        omega arith
-    by rest (inr (inl less)) = let none = has_other k row (λ same. omega arith) in omega arith
-    by rest (inr (inr more)) = let none = has_other k row (λ same. omega arith) in omega arith
 
 -- ---- rows put in
 
@@ -80,5 +53,10 @@ puts_sorted rows (row ∷ back) sorted a b same =
 pub sorted_rows_are_the_table : SortedRowsAreTheTable
 sorted_rows_are_the_table rows sorted table same = puts_sorted [] rows sorted tt table same
 
-pub sorted_rows_are_the_orphans : SortedRowsAreTheOrphans
-sorted_rows_are_the_orphans tree edits sorted table same = puts_sorted [] (base_pass tree.0 tree.1 edits).loose sorted tt table same
+pub any_sort_makes_the_orphans : AnySortMakesTheOrphans
+any_sort_makes_the_orphans tree edits sorted lawful same up =
+    let loose = (base_pass tree.0 tree.1 edits).loose in
+    puts_sorted [] loose sorted tt (distinct_is_table sorted up (λ k. once k (sum_by-IsPermutation (has k) loose sorted same) (loose_once tree edits lawful k))) same
+  where
+    once : (k : ℕ) → sum_by (has k) sorted ≡ sum_by (has k) (base_pass tree.0 tree.1 edits).loose → sum_by (has k) (base_pass tree.0 tree.1 edits).loose ≤ 1 → sum_by (has k) sorted ≤ 1
+    once k count most = omega arith

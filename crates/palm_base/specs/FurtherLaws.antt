@@ -1,9 +1,9 @@
 -- Further laws of tables and trees, which the functions of the module of tree laws carry.
 use Rattle.std.specs.Prelude.{◌≡◌, ℕ, ◌+◌, ◌*◌, ◌^◌, ◌≤◌, List, [], length, map}
 use Rattle.std.specs.List.{AllByRecursion}
-use Rattle.std.specs.List.Sorted.{IsPermutation}
+use Rattle.std.specs.List.Sorted.{IsPermutation, IsNonDecreasingBy}
 use Rattle.palm_base.specs.Prefix.{IsPrefix}
-use Rattle.palm_base.specs.Table.{IsTable, after_all, best_for}
+use Rattle.palm_base.specs.Table.{row_key, IsTable, after_all, best_for}
 use Rattle.palm_base.specs.Fronts.{first_front}
 use Rattle.palm_base.specs.Tree.{Subtree, Tree, levels_of, rows_of}
 use Rattle.palm_base.specs.Pass.{set_of, Outcome, below, base_pass, orphans_of, batch_tree, tree_after}
@@ -38,11 +38,11 @@ CuttingsKeepLows =
 abbrev pub SortedRowsAreTheTable : Type 0
 SortedRowsAreTheTable = (rows sorted : List Row) → IsTable sorted → IsPermutation rows sorted → after_all [] (map set_of rows) ≡ sorted
 
--- So the loose rows of a pass in strictly rising order, by whatever sort, are the orphans.
-abbrev pub SortedRowsAreTheOrphans : Type 0
-SortedRowsAreTheOrphans =
-    (tree : Tree) (edits : List Call) (sorted : List Row) → IsTable sorted → IsPermutation (base_pass tree.0 tree.1 edits).loose sorted
-    → orphans_of tree edits ≡ sorted
+-- So the loose rows of a pass through a lawful tree, sorted by key in whatever way, are the orphans: no two have one key.
+abbrev pub AnySortMakesTheOrphans : Type 0
+AnySortMakesTheOrphans =
+    (tree : Tree) (edits : List Call) (sorted : List Row) → IsLawful tree → IsPermutation (base_pass tree.0 tree.1 edits).loose sorted
+    → IsNonDecreasingBy row_key sorted → orphans_of tree edits ≡ sorted
 
 -- A lawful tree of many levels has many rows: of two levels two least leaves, and of each level more as many times more as
 -- an inner node has children at least. So with leaves of 8 rows and nodes of 8 children one of three levels has 128.

@@ -1,6 +1,6 @@
 //! Further laws of tables and trees. Each function has an empty body: its contract is the law.
 
-ghost use Rattle.palm_base.specs.FurtherLaws.{FrontsFindTheBest, BatchesKeepLows, CuttingsKeepLows, SortedRowsAreTheTable, SortedRowsAreTheOrphans, HighTreesHoldMany, LawfulTreesAreLow, EditsGoByPlace, PassesGoByPlace, LawIsLiteral};
+ghost use Rattle.palm_base.specs.FurtherLaws.{FrontsFindTheBest, BatchesKeepLows, CuttingsKeepLows, SortedRowsAreTheTable, AnySortMakesTheOrphans, HighTreesHoldMany, LawfulTreesAreLow, EditsGoByPlace, PassesGoByPlace, LawIsLiteral};
 
 /// The row by which a number is rated, that of the longest prefix that begins it, is found by looking up the fronts of
 /// the number, from the longest to the shortest.
@@ -15,11 +15,12 @@ pub fn batches_keep_lows()
     ensures history { CuttingsKeepLows }
 {}
 
-/// The rows that a pass leaves loose may be sorted by any means: the same rows in strictly rising order are the orphans.
-/// Of any rows these are what their Sets leave of the empty table.
-pub fn sorted_rows_are_the_orphans()
+/// The same rows in strictly rising order, by whatever sort, are what their Sets leave of the empty table. So the rows that
+/// a pass through a lawful tree leaves loose, of which no two have one key, may be sorted by key in any way: they are the
+/// orphans.
+pub fn any_sort_makes_the_orphans()
     ensures table { SortedRowsAreTheTable }
-    ensures orphans { SortedRowsAreTheOrphans }
+    ensures orphans { AnySortMakesTheOrphans }
 {}
 
 /// A lawful tree of many levels has many rows. Since there are only so many prefixes, it has at most `MOST_LEVELS` levels
