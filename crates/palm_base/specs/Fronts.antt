@@ -5,7 +5,7 @@ use Rattle.palm_base.specs.Key.{key}
 use Rattle.palm_base.specs.Table.{rate_at}
 use Rattle.palm_base.specs.declared.row.Row.{Row}
 
--- The row of a prefix where a rate was found for it, and else the other.
+-- The row of a prefix where a rate was found for it, and else the other. So for 44 the rate 5 makes the row of 44 at 5.
 abbrev pub row_or : List ℕ → Option Row → Option ℕ → Option Row
 row_or prefix other None = other
 row_or prefix other (Some rate) = Some (record { prefix = prefix; rate = rate })

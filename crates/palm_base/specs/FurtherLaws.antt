@@ -27,7 +27,8 @@ FrontsFindTheBest =
 abbrev pub BatchesKeepLows : Type 0
 BatchesKeepLows = (tree : Tree) (calls : List Call) → LowsAreKeys tree → AllByRecursion SetsPrefix calls → LowsAreKeys (batch_tree tree calls)
 
--- However a history is cut, its tree keeps lows keys where its Sets are of prefixes.
+-- However a history is cut, its tree keeps lows keys where its Sets are of prefixes. So 34 Sets do, in one batch or one by
+-- one, though they come to other lows.
 abbrev pub CuttingsKeepLows : Type 0
 CuttingsKeepLows =
     (tree : Tree) (entries : List Entry) (lengths : List ℕ) → LowsAreKeys tree → AllByRecursion (λ entry. SetsPrefix entry.call) entries
@@ -38,33 +39,36 @@ CuttingsKeepLows =
 abbrev pub SortedRowsAreTheTable : Type 0
 SortedRowsAreTheTable = (rows sorted : List Row) → IsTable sorted → IsPermutation rows sorted → after_all [] (map set_of rows) ≡ sorted
 
--- So the loose rows of a pass through a lawful tree, sorted by key in whatever way, are the orphans: no two have one key.
+-- So the loose rows of a pass through a lawful tree, sorted by key in whatever way, are the orphans: no two have one key,
+-- and a stable sort and another come to the same.
 abbrev pub AnySortMakesTheOrphans : Type 0
 AnySortMakesTheOrphans =
     (tree : Tree) (edits : List Call) (sorted : List Row) → IsLawful tree → IsPermutation (base_pass tree.0 tree.1 edits).loose sorted
     → IsNonDecreasingBy row_key sorted → orphans_of tree edits ≡ sorted
 
--- A lawful tree of many levels has many rows: of two levels two least leaves, and of each level more as many times more as
--- an inner node has children at least. So with leaves of 8 rows and nodes of 8 children one of three levels has 128.
+-- A lawful tree of many levels has many rows: one of two levels has those of two least leaves, and each level more makes
+-- them LEAST_CHILDREN times as many. So with leaves of 8 rows and nodes of 8 children one of three levels has 128 or more.
 abbrev pub HighTreesHoldMany : Type 0
 HighTreesHoldMany =
     (tree : Tree) (n : ℕ) → IsLawful tree → levels_of tree ≡ n + 2 → 2 * (LEAST_LEAF_ROWS * LEAST_CHILDREN ^ n) ≤ length (rows_of tree)
 
--- A lawful tree whose rows go by prefixes has at most MOST_LEVELS levels, since there are only so many prefixes.
+-- A lawful tree whose rows go by prefixes has at most MOST_LEVELS levels. So with the bounds 8 it has at most 17: one of 18
+-- would have at least 2 ^ 52 rows, and there are fewer prefixes.
 abbrev pub LawfulTreesAreLow : Type 0
 LawfulTreesAreLow = (tree : Tree) → IsLawful tree → PrefixesHold (rows_of tree) → levels_of tree ≤ MOST_LEVELS
 
 -- Splitting the edits at each next low sends each to the last child whose low is at most its key, where the lows rise.
--- They do in each inner node of a lawful tree.
+-- They do in each inner node of a lawful tree. So with the lows 0, 19 and 28 a Set at 20 goes to the second child.
 abbrev pub EditsGoByPlace : Type 0
 EditsGoByPlace =
     (n : ℕ) (go : ℕ → Subtree n → List Call → Outcome n) (children : List (ℕ × Subtree n)) (edits : List Call) → LowsRise children
     → below n go children edits ≡ below_by_place n go children edits
 
--- So a pass through a lawful tree sends each edit, at each inner node, to the last child whose low is at most its key.
+-- So a pass through a lawful tree sends each edit, at each inner node, to the last child whose low is at most its key, and
+-- what becomes of the tree by either rule is the same.
 abbrev pub PassesGoByPlace : Type 0
 PassesGoByPlace = (tree : Tree) (edits : List Call) → IsLawful tree → base_pass tree.0 tree.1 edits ≡ base_pass_by_place tree.0 tree.1 edits
 
--- A tree is lawful exactly where it is so literally.
+-- A tree is lawful exactly where it is so literally. So bounds between which its keys rise need not be named.
 abbrev pub LawIsLiteral : Type 0
 LawIsLiteral = (tree : Tree) → (IsLawful tree → IsLawfulLiterally tree) × (IsLawfulLiterally tree → IsLawful tree)

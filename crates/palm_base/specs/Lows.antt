@@ -21,7 +21,7 @@ SetsPrefix (Get prefix) = Unit {0}
 SetsPrefix (Rate number) = Unit {0}
 SetsPrefix (Listing from to limit) = Unit {0}
 
--- Each low is the key of a prefix.
+-- Each low is the key of a prefix. So the key of 2 is one, and 0 isn't.
 abbrev pub EachLowIsKey : {X : Type 0} → List (ℕ × X) → Type 0
 EachLowIsKey = AllByRecursion (λ child. IsKey child.0)
 
@@ -31,6 +31,6 @@ abbrev pub LowsAreKeysIn : (n : ℕ) → Subtree n → Type 0
 LowsAreKeysIn zero rows = PrefixesHold rows
 LowsAreKeysIn (suc n) children = EachLowIsKey (drop 1 children) × AllByRecursion (λ child. LowsAreKeysIn n child.1) children
 
--- The same of a tree.
+-- The same of a tree. So it holds of the empty tree.
 abbrev pub LowsAreKeys : Tree → Type 0
 LowsAreKeys tree = LowsAreKeysIn tree.0 tree.1
