@@ -45,7 +45,7 @@ Sound (suc n) first high children =
     × Chain (λ child. child.0) (λ l h child. (l < h) × Sound n l h child.1) first high children
 
 -- Children in order, between `first` and `high`: each has a range of its own, and is sound in it. So they may be the
--- children of a node, or pieces that have no node over them yet.
+-- children of a node, or pieces that have no node over them yet. `Sound` spells this out, since it is defined by itself.
 abbrev pub InOrder : (n : ℕ) → ℕ → ℕ → List (ℕ × Subtree n) → Type 0
 InOrder n = Chain (λ child. child.0) (λ l h child. (l < h) × Sound n l h child.1)
 

@@ -34,11 +34,11 @@ edit_key (Get prefix) = key prefix
 edit_key (Rate number) = key number
 edit_key (Listing from to limit) = key from
 
--- An edit goes left of a separator that is above its key, and right of one that isn't. So Del 44 goes left of 45, and
--- right of 44.
+-- The edit goes left of a separator: its key is below it. So Del 44 goes left of 45.
 abbrev pub goes_left : ℕ → Call → Bool
 goes_left low edit = nat_lt (edit_key edit) low
 
+-- The edit goes right of a separator: its key isn't below it. So Del 44 goes right of 44, and of 4.
 abbrev pub goes_right : ℕ → Call → Bool
 goes_right low edit = nat_le low (edit_key edit)
 
