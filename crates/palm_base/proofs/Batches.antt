@@ -39,10 +39,12 @@ leaf_tree h (row ∷ rows) rise = by (cases_lt MOST_LEAF_ROWS (length (row ∷ r
     by : (MOST_LEAF_ROWS < length (row ∷ rows)) ⊎ (length (row ∷ rows) ≤ MOST_LEAF_ROWS)
         → IsTreeOf h (rows_under zero (leaves_of 0 (row ∷ rows))) (top zero (leaves_of 0 (row ∷ rows)))
     by (inl many) =
-        top_holds zero h (leaves_of 0 (row ∷ rows))
-        (leaves_in_order 0 0 h (cut MOST_LEAF_ROWS (row ∷ rows)) (cut_sizes LEAST_LEAF_ROWS (row ∷ rows) (omega arith) many) (rw (pieces_join MOST_LEAF_ROWS (row ∷ rows) (omega arith)) rise))
+        let sizes = cut_sizes LEAST_LEAF_ROWS (row ∷ rows) (omega arith) many in
+        let whole = pieces_join MOST_LEAF_ROWS (row ∷ rows) (omega arith) in
+        top_holds zero h (leaves_of 0 (row ∷ rows)) (leaves_in_order 0 0 h (cut MOST_LEAF_ROWS (row ∷ rows)) sizes (rw whole rise))
     by (inr few) =
-        rw (few_are_one_piece MOST_LEAF_ROWS (row ∷ rows) (omega arith) few) (unfold top top_in in record { root = (few, rise); same = sym (append-nil (row ∷ rows)) })
+        rw (few_are_one_piece MOST_LEAF_ROWS (row ∷ rows) (omega arith) few)
+        (unfold top top_in in record { root = (few, rise); same = sym (append-nil (row ∷ rows)) })
 
 base_holds : (n h : ℕ) (node : Subtree n) (edits : List Call) → Root n h node → AllByRecursion (Adds (IsIn 0 h)) edits
     → PassedTo h (after_all (rows_in n node) edits) (base_level n) (base_pass n node edits)
@@ -109,7 +111,8 @@ root_wider : (n h h' : ℕ) (node : Subtree n) → Root n h node → h ≤ h' �
 root_wider zero h h' rows root more = (root.0, rising_wider 0 h 0 h' rows root.1 (omega arith) more)
 root_wider (suc n) h h' children root more = (root.0, root.1, in_order_wider n 0 h 0 h' children root.2 (omega arith) more)
 
-lawful_batch : (tree : Tree) (calls : List Call) (lawful : IsLawful tree) → IsTreeOf (lawful.0 + highest calls) (after_all (rows_of tree) calls) (batch_tree tree calls)
+lawful_batch : (tree : Tree) (calls : List Call) (lawful : IsLawful tree)
+    → IsTreeOf (lawful.0 + highest calls) (after_all (rows_of tree) calls) (batch_tree tree calls)
 lawful_batch tree calls lawful =
     let h = lawful.0 + highest calls in
     batch_holds h tree calls (root_wider tree.0 lawful.0 h tree.1 lawful.1 (omega arith)) (adds_below h calls (omega arith))

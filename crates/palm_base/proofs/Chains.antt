@@ -22,7 +22,8 @@ module _ {X : Type 0} (low : X → ℕ) (Lies : ℕ → ℕ → X → Type 0)
       omega arith
 
   -- Two chains one after the other. Where the second has no items its next low is its upper bound.
-  pub chain_join : (l m h : ℕ) (xs ys : List X) → Chain low Lies l m xs → Chain low Lies (next_low low h ys) h ys → l ≤ m → m ≤ next_low low h ys → Chain low Lies l h (xs ++ ys)
+  pub chain_join : (l m h : ℕ) (xs ys : List X) → Chain low Lies l m xs → Chain low Lies (next_low low h ys) h ys → l ≤ m
+      → m ≤ next_low low h ys → Chain low Lies l h (xs ++ ys)
   chain_join l m h [] ys left right lm mh = chain_wider (next_low low h ys) h l h ys right (omega arith) (omega arith)
   chain_join l m h (x ∷ []) ys left right lm mh = (wider l m l (next_low low h ys) x left.0 (omega arith) mh, right)
   chain_join l m h (x ∷ y ∷ zs) ys left right lm mh =
@@ -41,7 +42,8 @@ module _ {X : Type 0} (low : X → ℕ) (Lies : ℕ → ℕ → X → Type 0)
   -- The parts of a chain, each under a node of its own, are a chain of nodes.
   module _ {Y : Type 0} (node : List X → Y) (Holds : ℕ → ℕ → Y → Type 0) (least most : ℕ) (some : 0 < least)
       (held : (l h : ℕ) (part : List X) → HasFromTo least most part → Chain low Lies l h part → Holds l h (node part)) where
-    pub chain_with_lows : (first l h : ℕ) (parts : List (List X)) → AllByRecursion (HasFromTo least most) parts → Chain low Lies l h (flat_map (λ part. part) parts)
+    pub chain_with_lows : (first l h : ℕ) (parts : List (List X)) → AllByRecursion (HasFromTo least most) parts
+        → Chain low Lies l h (flat_map (λ part. part) parts)
         → Chain (λ child. child.0) (λ l h child. (l < h) × Holds l h child.1) l h (with_lows low node first parts)
     chain_with_lows first l h [] sizes chain = tt
     chain_with_lows first l h ([] ∷ parts) sizes chain = absurd (omega arith)

@@ -13,7 +13,8 @@ pub every_append : {X : Type 0} (P : X → Type 0) (xs ys : List X) → AllByRec
 every_append P xs ys all more = recursion_from_All P (xs ++ ys) (All-append P xs ys (All-from_recursion P xs all) (All-from_recursion P ys more))
 
 -- What a test lets through may have a property of its own.
-pub every_filter : {X : Type 0} (P Q : X → Type 0) (test : X → Bool) → ((x : X) → P x → test x ≡ true → Q x) → (xs : List X) → AllByRecursion P xs → AllByRecursion Q (filter test xs)
+pub every_filter : {X : Type 0} (P Q : X → Type 0) (test : X → Bool) → ((x : X) → P x → test x ≡ true → Q x) → (xs : List X)
+    → AllByRecursion P xs → AllByRecursion Q (filter test xs)
 every_filter P Q test gives [] all = tt
 every_filter P Q test gives (x ∷ xs) all = by (test x) refl (every_filter P Q test gives xs all.1)
   where

@@ -20,7 +20,8 @@ histories_go_by_calls rows [] = refl
 histories_go_by_calls rows (entry ∷ entries) = histories_go_by_calls (after rows entry.call) entries
 
 -- The calls of the first n entries and those of the others are the calls of all.
-calls_parted : (n : ℕ) (rows : List Row) (entries : List Entry) → after_all (after_all rows (calls_of (take n entries))) (calls_of (drop n entries)) ≡ after_all rows (calls_of entries)
+calls_parted : (n : ℕ) (rows : List Row) (entries : List Entry)
+    → after_all (after_all rows (calls_of (take n entries))) (calls_of (drop n entries)) ≡ after_all rows (calls_of entries)
 calls_parted n rows entries =
     sym (after_all_append rows (calls_of (take n entries)) (calls_of (drop n entries)))
     ∙ ap (after_all rows) (together ∙ ap calls_of (take-append-drop n entries))
@@ -30,7 +31,8 @@ calls_parted n rows entries =
 
 cuttings_go_by_calls : (tree : Tree) (entries : List Entry) (lengths : List ℕ) → IsLawful tree → sum lengths ≡ length entries
     → rows_of (tree_after tree entries lengths) ≡ after_all (rows_of tree) (calls_of entries)
-cuttings_go_by_calls tree entries [] lawful whole = ap (λ entries. after_all (rows_of tree) (calls_of entries)) (sym (nil_from_length entries (omega arith)))
+cuttings_go_by_calls tree entries [] lawful whole =
+    ap (λ entries. after_all (rows_of tree) (calls_of entries)) (sym (nil_from_length entries (omega arith)))
 cuttings_go_by_calls tree entries (n ∷ lengths) lawful whole =
     let batch = calls_of (take n entries) in
     let total : sum (n ∷ lengths) ≡ n + sum lengths = sum_by-cons (λ length. length) n lengths in
@@ -40,7 +42,8 @@ cuttings_go_by_calls tree entries (n ∷ lengths) lawful whole =
     ∙ calls_parted n (rows_of tree) entries
 
 pub cuttings_keep_rows : CuttingsKeepRows
-cuttings_keep_rows tree entries lengths lawful cutting = cuttings_go_by_calls tree entries lengths lawful cutting.whole ∙ sym (histories_go_by_calls (rows_of tree) entries)
+cuttings_keep_rows tree entries lengths lawful cutting =
+    cuttings_go_by_calls tree entries lengths lawful cutting.whole ∙ sym (histories_go_by_calls (rows_of tree) entries)
 
 pub cuttings_keep_law : CuttingsKeepLaw
 cuttings_keep_law tree entries [] lawful = lawful

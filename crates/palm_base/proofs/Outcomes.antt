@@ -49,19 +49,22 @@ leaf_keeps_low l h low rows rise = by (is_small LEAST_LEAF_ROWS rows) refl
           kept = first_has_low row_key (λ part. part) low (cut MOST_LEAF_ROWS rows);
         }
 
-pub inner_keeps_low : (n l h low : ℕ) (table : List Row) (left : Outcome n) → Holds n l h table left → KeepsLow (suc n) l h low table (inner_outcome n low left)
+pub inner_keeps_low : (n l h low : ℕ) (table : List Row) (left : Outcome n) → Holds n l h table left
+    → KeepsLow (suc n) l h low table (inner_outcome n low left)
 inner_keeps_low n l h low table left holds = by (is_small LEAST_CHILDREN left.pieces) refl
   where
     by : (b : Bool) → is_small LEAST_CHILDREN left.pieces ≡ b
         → KeepsLow (suc n) l h low table
-        (cond b (record { pieces = []; loose = rows_under n left.pieces ++ left.loose }) (record { pieces = nodes_over low left.pieces; loose = left.loose }))
+        (cond b (record { pieces = []; loose = rows_under n left.pieces ++ left.loose })
+        (record { pieces = nodes_over low left.pieces; loose = left.loose }))
     by true small =
         let rise = in_order_rises n l h left.pieces holds.pieces in
         record {
           holds = record {
             pieces = tt;
             loose = every_append (RowIsIn l h) (rows_under n left.pieces) left.loose (rising_range l h (rows_under n left.pieces) rise) holds.loose;
-            rows = put_all_append [] (rows_under n left.pieces) left.loose ∙ ap (λ rows. put_all rows left.loose) (put_all_none l h (rows_under n left.pieces) rise) ∙ holds.rows;
+            rows = put_all_append [] (rows_under n left.pieces) left.loose
+                ∙ ap (λ rows. put_all rows left.loose) (put_all_none l h (rows_under n left.pieces) rise) ∙ holds.rows;
             count = let count = holds.count in simp length-append (omega arith);
           };
           kept = refl;

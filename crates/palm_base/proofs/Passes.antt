@@ -23,14 +23,17 @@ use Rattle.palm_base.specs.declared.call.Call.{Call}
 left_edits : (l m h : ℕ) (edits : List Call) → AllByRecursion (Adds (IsIn l h)) edits → AllByRecursion (Adds (IsIn l m)) (filter (goes_left m) edits)
 left_edits l m h = every_filter (Adds (IsIn l h)) (Adds (IsIn l m)) (goes_left m) (λ edit adds goes set. ((adds set).0, ltb-true (edit_key edit) m goes))
 
-right_edits : (l m h : ℕ) (edits : List Call) → AllByRecursion (Adds (IsIn l h)) edits → AllByRecursion (Adds (IsIn m h)) (filter (goes_right m) edits)
+right_edits : (l m h : ℕ) (edits : List Call) → AllByRecursion (Adds (IsIn l h)) edits
+    → AllByRecursion (Adds (IsIn m h)) (filter (goes_right m) edits)
 right_edits l m h = every_filter (Adds (IsIn l h)) (Adds (IsIn m h)) (goes_right m) (λ edit adds goes set. (leb-true m (edit_key edit) goes, (adds set).1))
 
 -- ---- two outcomes side by side
 
 -- Loose rows put back on their own side of a separator m make the tables of both sides.
-put_back_both : (m : ℕ) (kept loose kept_right loose_right table table_right : List Row) → put_all kept loose ≡ table → put_all kept_right loose_right ≡ table_right
-    → Under m table → Under m loose → From m kept_right → From m loose_right → put_all (kept ++ kept_right) (loose ++ loose_right) ≡ table ++ table_right
+put_back_both : (m : ℕ) (kept loose kept_right loose_right table table_right : List Row) → put_all kept loose ≡ table
+    → put_all kept_right loose_right ≡ table_right
+    → Under m table → Under m loose → From m kept_right → From m loose_right
+    → put_all (kept ++ kept_right) (loose ++ loose_right) ≡ table ++ table_right
 put_back_both m kept loose kept_right loose_right table table_right left right table_under loose_under kept_from loose_from =
     put_all_append (kept ++ kept_right) loose loose_right
     ∙ ap (λ rows. put_all rows loose_right) (put_all_left m kept kept_right loose kept_from loose_under ∙ ap (λ rows. rows ++ kept_right) left)
@@ -44,7 +47,8 @@ record HoldsFrom (n l h : ℕ) (table : List Row) (outcome : Outcome n) : Type 0
   least : l ≤ next_low low_of h outcome.pieces
   most : next_low low_of h outcome.pieces ≤ h
 
-joined_holds : (n l m h low : ℕ) (table more : List Row) (left right : Outcome n) → l ≤ m → m ≤ h → Rising l m table → KeepsLow n l m low table left → HoldsFrom n m h more right
+joined_holds : (n l m h low : ℕ) (table more : List Row) (left right : Outcome n) → l ≤ m → m ≤ h → Rising l m table
+    → KeepsLow n l m low table left → HoldsFrom n m h more right
     → Holds n l h (table ++ more) (joined left right)
 joined_holds n l m h low table more left right lm mh rise first rest =
     let later = in_order_rises n (next_low low_of h right.pieces) h right.pieces rest.own in
@@ -69,7 +73,8 @@ own_alone : (n l h : ℕ) (pieces : List (ℕ × Subtree n)) → next_low low_of
 own_alone n l h [] kept chain lh = (tt, omega arith, omega arith)
 own_alone n l h (piece ∷ pieces) kept chain lh = rw kept (chain, omega arith, omega arith)
 
-own_joined : (n l m h : ℕ) (left right : List (ℕ × Subtree n)) → next_low low_of l left ≡ l → InOrder n l h (left ++ right) → InOrder n (next_low low_of h right) h right → l ≤ m → m ≤ h
+own_joined : (n l m h : ℕ) (left right : List (ℕ × Subtree n)) → next_low low_of l left ≡ l → InOrder n l h (left ++ right)
+    → InOrder n (next_low low_of h right) h right → l ≤ m → m ≤ h
     → m ≤ next_low low_of h right → next_low low_of h right ≤ h
     → InOrder n (next_low low_of h (left ++ right)) h (left ++ right) × (l ≤ next_low low_of h (left ++ right)) × (next_low low_of h (left ++ right) ≤ h)
 own_joined n l m h [] right kept chain own lm mh least most = (own, omega arith, most)
@@ -82,8 +87,10 @@ abbrev pub PassHolds : ℕ → Type 0
 PassHolds n = (l h low : ℕ) (node : Subtree n) (edits : List Call) → Sound n l h node → AllByRecursion (Adds (IsIn l h)) edits
     → KeepsLow n l h low (after_all (rows_in n node) edits) (pass n low node edits)
 
-split_holds : (n : ℕ) → PassHolds n → (l h : ℕ) (child next : ℕ × Subtree n) (children : List (ℕ × Subtree n)) (edits : List Call) → InOrder n l h (child ∷ next ∷ children) → AllByRecursion (Adds (IsIn l h)) edits
-    → HoldsFrom n next.0 h (after_all (rows_under n (next ∷ children)) (filter (goes_right next.0) edits)) (below n (pass n) (next ∷ children) (filter (goes_right next.0) edits))
+split_holds : (n : ℕ) → PassHolds n → (l h : ℕ) (child next : ℕ × Subtree n) (children : List (ℕ × Subtree n)) (edits : List Call)
+    → InOrder n l h (child ∷ next ∷ children) → AllByRecursion (Adds (IsIn l h)) edits
+    → HoldsFrom n next.0 h (after_all (rows_under n (next ∷ children)) (filter (goes_right next.0) edits))
+    (below n (pass n) (next ∷ children) (filter (goes_right next.0) edits))
     → Holds n l h (after_all (rows_under n (child ∷ next ∷ children)) edits) (below n (pass n) (child ∷ next ∷ children) edits)
 split_holds n law l h child next children edits chain adds rest =
     let m = next.0 in
@@ -102,7 +109,8 @@ split_holds n law l h child next children edits chain adds rest =
     (omega arith) (omega arith) (rising_all l m (rows_in n child.1) here rise adds_here)
     (law l m child.0 child.1 here chain.0.1 adds_here) rest)
 
-below_holds_from : (n : ℕ) → PassHolds n → (h : ℕ) (child : ℕ × Subtree n) (children : List (ℕ × Subtree n)) (edits : List Call) → InOrder n child.0 h (child ∷ children) → AllByRecursion (Adds (IsIn child.0 h)) edits
+below_holds_from : (n : ℕ) → PassHolds n → (h : ℕ) (child : ℕ × Subtree n) (children : List (ℕ × Subtree n)) (edits : List Call)
+    → InOrder n child.0 h (child ∷ children) → AllByRecursion (Adds (IsIn child.0 h)) edits
     → HoldsFrom n child.0 h (after_all (rows_under n (child ∷ children)) edits) (below n (pass n) (child ∷ children) edits)
 below_holds_from n law h child [] edits chain adds =
     let one = law child.0 h child.0 child.1 edits chain.0.1 adds in
@@ -117,11 +125,13 @@ below_holds_from n law h child (next ∷ children) edits chain adds =
     let rest = below_holds_from n law h next children there chain.1 (right_edits child.0 m h edits adds) in
     let one = law child.0 m child.0 child.1 here chain.0.1 (left_edits child.0 m h edits adds) in
     let holds = split_holds n law child.0 h child next children edits chain adds rest in
-    let own = own_joined n child.0 m h (pass n child.0 child.1 here).pieces (below n (pass n) (next ∷ children) there).pieces one.kept holds.pieces rest.own (omega arith) (omega arith) rest.least rest.most in
+    let own = own_joined n child.0 m h (pass n child.0 child.1 here).pieces (below n (pass n) (next ∷ children) there).pieces
+    one.kept holds.pieces rest.own (omega arith) (omega arith) rest.least rest.most in
     record { holds = holds; own = own.0; least = own.1; most = own.2 }
 
 -- The same of children of which the first may have any low, as in a node, where it is written 0.
-pub below_holds : (n : ℕ) → PassHolds n → (l h : ℕ) (children : List (ℕ × Subtree n)) (edits : List Call) → InOrder n l h children → 0 < length children → AllByRecursion (Adds (IsIn l h)) edits
+pub below_holds : (n : ℕ) → PassHolds n → (l h : ℕ) (children : List (ℕ × Subtree n)) (edits : List Call) → InOrder n l h children
+    → 0 < length children → AllByRecursion (Adds (IsIn l h)) edits
     → Holds n l h (after_all (rows_under n children) edits) (below n (pass n) children edits)
 below_holds n law l h [] edits chain some adds = absurd (omega arith)
 below_holds n law l h (child ∷ []) edits chain some adds =
@@ -144,7 +154,8 @@ pass_holds (suc n) l h low children edits sound adds =
 abbrev PassLeaves : ℕ → Type 0
 PassLeaves n = (l h low : ℕ) (node : Subtree n) → Sound n l h node → pass n low node [] ≡ record { pieces = (low, node) ∷ []; loose = [] }
 
-below_same : (n : ℕ) → PassLeaves n → (l h : ℕ) (children : List (ℕ × Subtree n)) → InOrder n l h children → below n (pass n) children [] ≡ record { pieces = children; loose = [] }
+below_same : (n : ℕ) → PassLeaves n → (l h : ℕ) (children : List (ℕ × Subtree n)) → InOrder n l h children
+    → below n (pass n) children [] ≡ record { pieces = children; loose = [] }
 below_same n law l h [] chain = refl
 below_same n law l h (child ∷ []) chain = law l h child.0 child.1 chain.0.1
 below_same n law l h (child ∷ next ∷ children) chain = rw (law l next.0 child.0 child.1 chain.0.1, below_same n law next.0 h (next ∷ children) chain.1)
@@ -154,4 +165,5 @@ unfolding pass
 pass_same zero l h low rows sound =
     rw (large LEAST_LEAF_ROWS rows sound.0.0, few_are_one_piece MOST_LEAF_ROWS rows (omega arith) sound.0.1)
 pass_same (suc n) l h low children sound =
-    rw (below_same n (pass_same n) l h children sound.2, large LEAST_CHILDREN children sound.0.0, few_are_one_piece MOST_CHILDREN children (omega arith) sound.0.1, node_over_same n children sound.1)
+    let one = few_are_one_piece MOST_CHILDREN children (omega arith) sound.0.1 in
+    rw (below_same n (pass_same n) l h children sound.2, large LEAST_CHILDREN children sound.0.0, one, node_over_same n children sound.1)

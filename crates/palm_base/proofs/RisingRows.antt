@@ -1,5 +1,5 @@
 -- Rising rows: taken apart, joined and kept by calls, and rows put back one after another.
-use Rattle.std.proofs.Common.{◌≡◌, ℕ, suc, ◌<◌, ◌≤◌, Bool, true, false, cond, not, ◌==◌, List, [], ◌∷◌, ◌++◌, map, filter, refl, ap, arith, ◌∙◌, ◌⊎◌, inl, inr}
+use Rattle.std.proofs.Common.{◌≡◌, ℕ, suc, ◌<◌, ◌≤◌, Bool, true, false, cond, not, ◌==◌, List, [], ◌∷◌, ◌++◌, map, filter, refl, ap, arith, ◌∙◌, inl, inr}
 use Rattle.std.specs.List.{AllByRecursion}
 use Rattle.std.proofs.lemmas.Bool.{cases_order}
 use Rattle.std.proofs.lemmas.List.{map-append}
@@ -8,7 +8,7 @@ use Rattle.palm_base.specs.Table.{row_key, put, after, after_all}
 use Rattle.palm_base.specs.Pass.{set_of}
 use Rattle.palm_base.specs.Lawful.{RowIsIn, IsIn, Rising}
 use Rattle.palm_base.proofs.Every.{every_weaker}
-use Rattle.palm_base.proofs.Tables.{put_before, put_at, put_past, after_all_append}
+use Rattle.palm_base.proofs.Tables.{Order, put_before, put_at, put_past, after_all_append}
 use Rattle.palm_base.proofs.TableSplits.{Under, From, Adds, put_left, put_right}
 use Rattle.palm_base.proofs.Chains.{chain_wider}
 use Rattle.palm_base.specs.declared.row.Row.{Row}
@@ -68,7 +68,7 @@ rising_put l h new (row ∷ rows) inside rise =
     (cases_order (row_key new) (row_key row))
   where
     by : RowIsIn l h row → Rising (suc (row_key row)) h rows → (RowIsIn (suc (row_key row)) h new → Rising (suc (row_key row)) h (put new rows))
-        → (row_key new ≡ row_key row) ⊎ ((row_key new < row_key row) ⊎ (row_key row < row_key new)) → Rising l h (put new (row ∷ rows))
+        → Order new row → Rising l h (put new (row ∷ rows))
     by first rest put_later (inl e) =
         rw (put_at new row rows e)
         (rising_cons l h new rows inside (rising_wider (suc (row_key row)) h (suc (row_key new)) h rows rest (omega arith) (omega arith)))
@@ -81,7 +81,8 @@ rising_filter l h test [] rise = tt
 rising_filter l h test (row ∷ rows) rise =
     by (test row) (rising_head l h row rows rise) (rising_filter (suc (row_key row)) h test rows (rising_rest l h row rows rise))
   where
-    by : (b : Bool) → RowIsIn l h row → Rising (suc (row_key row)) h (filter test rows) → Rising l h (cond b (row ∷ filter test rows) (filter test rows))
+    by : (b : Bool) → RowIsIn l h row → Rising (suc (row_key row)) h (filter test rows)
+        → Rising l h (cond b (row ∷ filter test rows) (filter test rows))
     by true first rest = rising_cons l h row (filter test rows) first rest
     by false first rest = rising_wider (suc (row_key row)) h l h (filter test rows) rest (omega arith) (omega arith)
 
@@ -92,7 +93,8 @@ rising_after l h rows (Get prefix) rise adds = rise
 rising_after l h rows (Rate number) rise adds = rise
 rising_after l h rows (Listing from to limit) rise adds = rise
 
-pub rising_all : (l h : ℕ) (rows : List Row) (calls : List Call) → Rising l h rows → AllByRecursion (Adds (IsIn l h)) calls → Rising l h (after_all rows calls)
+pub rising_all : (l h : ℕ) (rows : List Row) (calls : List Call) → Rising l h rows → AllByRecursion (Adds (IsIn l h)) calls
+    → Rising l h (after_all rows calls)
 rising_all l h rows [] rise adds = rise
 rising_all l h rows (call ∷ calls) rise adds = rising_all l h (after rows call) calls (rising_after l h rows call rise adds.0) adds.1
 

@@ -1,5 +1,5 @@
 -- A pass of Sets alone leaves nothing loose, since no node gets smaller.
-use Rattle.std.proofs.Common.{◌≡◌, ℕ, zero, suc, ◌<◌, ◌≤◌, Bool, true, List, [], ◌∷◌, length, map, filter, refl, ap, arith, ◌⊎◌, inl, inr}
+use Rattle.std.proofs.Common.{◌≡◌, ℕ, zero, suc, ◌<◌, ◌≤◌, Bool, true, List, [], ◌∷◌, length, map, filter, refl, ap, arith, inl, inr}
 use Rattle.std.specs.List.{flat_map, AllByRecursion}
 use Rattle.std.proofs.lemmas.Bool.{cases_order}
 use Rattle.std.proofs.lemmas.List.{length-append}
@@ -10,7 +10,7 @@ use Rattle.palm_base.specs.Pass.{set_of, goes_left, goes_right, with_lows, node_
 use Rattle.palm_base.specs.Lawful.{Sound, InOrder, Root}
 use Rattle.palm_base.specs.declared.bounds.TheConstants.{LEAST_LEAF_ROWS, MOST_LEAF_ROWS, LEAST_CHILDREN, MOST_CHILDREN}
 use Rattle.palm_base.proofs.Every.{every_filter}
-use Rattle.palm_base.proofs.Tables.{put_before, put_at, put_past}
+use Rattle.palm_base.proofs.Tables.{Order, put_before, put_at, put_past}
 use Rattle.palm_base.proofs.TableSplits.{is_set}
 use Rattle.palm_base.proofs.Cuts.{pieces_join}
 use Rattle.palm_base.proofs.CutParts.{large}
@@ -32,7 +32,7 @@ pub put_grows : (new : Row) (rows : List Row) → length rows ≤ length (put ne
 put_grows new [] = omega arith
 put_grows new (row ∷ rows) = by (put_grows new rows) (cases_order (row_key new) (row_key row))
   where
-    by : length rows ≤ length (put new rows) → (row_key new ≡ row_key row) ⊎ ((row_key new < row_key row) ⊎ (row_key row < row_key new)) → length (row ∷ rows) ≤ length (put new (row ∷ rows))
+    by : length rows ≤ length (put new rows) → Order new row → length (row ∷ rows) ≤ length (put new (row ∷ rows))
     by rest (inl e) = rw (put_at new row rows e) (omega arith)
     by rest (inr (inl l)) = rw (put_before new row rows l) (omega arith)
     by rest (inr (inr g)) = rw (put_past new row rows g) (omega arith)
@@ -51,7 +51,8 @@ sets_grow rows (call ∷ calls) sets =
     let rest = sets_grow (after rows call) calls sets.1 in
     omega arith
 
-some_pieces : {X Y : Type 0} (width : ℕ) (low : X → ℕ) (node : List X → Y) (first : ℕ) (items : List X) → 0 < width → 0 < length items → 0 < length (with_lows low node first (cut width items))
+some_pieces : {X Y : Type 0} (width : ℕ) (low : X → ℕ) (node : List X → Y) (first : ℕ) (items : List X) → 0 < width → 0 < length items
+    → 0 < length (with_lows low node first (cut width items))
 some_pieces width low node first items wide some = by (cut width items) (pieces_join width items wide)
   where
     by : (parts : List (List _)) → flat_map (λ part. part) parts ≡ items → 0 < length (with_lows low node first parts)
@@ -68,7 +69,8 @@ SetsHold n = (l h low : ℕ) (node : Subtree n) (edits : List Call) → Sound n 
 filter_sets : (test : Call → Bool) (edits : List Call) → AllByRecursion IsSet edits → AllByRecursion IsSet (filter test edits)
 filter_sets test = every_filter IsSet IsSet test (λ edit set passes. set)
 
-below_sets : (n : ℕ) → SetsHold n → (l h : ℕ) (children : List (ℕ × Subtree n)) (edits : List Call) → InOrder n l h children → AllByRecursion IsSet edits
+below_sets : (n : ℕ) → SetsHold n → (l h : ℕ) (children : List (ℕ × Subtree n)) (edits : List Call) → InOrder n l h children
+    → AllByRecursion IsSet edits
     → ((below n (pass n) children edits).loose ≡ []) × (length children ≤ length (below n (pass n) children edits).pieces)
 below_sets n law l h [] edits chain sets = (refl, omega arith)
 below_sets n law l h (child ∷ []) edits chain sets = let one = law l h child.0 child.1 edits chain.0.1 sets in (one.0, omega arith)
@@ -82,7 +84,8 @@ unfolding pass
 pass_sets zero l h low rows edits sound sets =
     let more = sets_grow rows edits sets in
     let least : LEAST_LEAF_ROWS ≤ length (after_all rows edits) = omega arith in
-    rw (large LEAST_LEAF_ROWS (after_all rows edits) least) (refl, some_pieces MOST_LEAF_ROWS row_key (λ part. part) low (after_all rows edits) (omega arith) (omega arith))
+    let some = some_pieces MOST_LEAF_ROWS row_key (λ part. part) low (after_all rows edits) (omega arith) (omega arith) in
+    rw (large LEAST_LEAF_ROWS (after_all rows edits) least) (refl, some)
 pass_sets (suc n) l h low children edits sound sets =
     let under = below_sets n (pass_sets n) l h children edits sound.2 sets in
     let left = (below n (pass n) children edits).pieces in

@@ -43,32 +43,40 @@ in_order_wider n = chain_wider low_of (Child n) (child_wider n) (child_proper n)
 pub in_order_proper : (n l h : ℕ) (child : ℕ × Subtree n) (children : List (ℕ × Subtree n)) → InOrder n l h (child ∷ children) → l < h
 in_order_proper n = chain_proper low_of (Child n) (child_wider n) (child_proper n)
 
-pub in_order_join : (n l m h : ℕ) (left right : List (ℕ × Subtree n)) → InOrder n l m left → InOrder n (next_low low_of h right) h right → l ≤ m → m ≤ next_low low_of h right
+pub in_order_join : (n l m h : ℕ) (left right : List (ℕ × Subtree n)) → InOrder n l m left → InOrder n (next_low low_of h right) h right
+    → l ≤ m → m ≤ next_low low_of h right
     → InOrder n l h (left ++ right)
 in_order_join n = chain_join low_of (Child n) (child_wider n) (child_proper n)
 
 -- ---- nodes over the parts of a cut
 
 -- Parts of rising rows are leaves in order.
-pub leaves_in_order : (first l h : ℕ) (parts : List (List Row)) → AllByRecursion (HasFromTo LEAST_LEAF_ROWS MOST_LEAF_ROWS) parts → Rising l h (flat_map (λ part. part) parts)
+pub leaves_in_order : (first l h : ℕ) (parts : List (List Row)) → AllByRecursion (HasFromTo LEAST_LEAF_ROWS MOST_LEAF_ROWS) parts
+    → Rising l h (flat_map (λ part. part) parts)
     → InOrder zero l h (with_lows row_key (λ part. part) first parts)
-leaves_in_order = chain_with_lows row_key RowIsIn row_wider row_proper (λ part. part) (Sound zero) LEAST_LEAF_ROWS MOST_LEAF_ROWS (omega arith) (λ l h part sizes rise. (sizes, rise))
+leaves_in_order =
+    chain_with_lows row_key RowIsIn row_wider row_proper (λ part. part) (Sound zero) LEAST_LEAF_ROWS MOST_LEAF_ROWS (omega arith)
+    (λ l h part sizes rise. (sizes, rise))
 
-node_sound : (n l h : ℕ) (part : List (ℕ × Subtree n)) → HasFromTo LEAST_CHILDREN MOST_CHILDREN part → InOrder n l h part → Sound (suc n) l h (node_over part)
+node_sound : (n l h : ℕ) (part : List (ℕ × Subtree n)) → HasFromTo LEAST_CHILDREN MOST_CHILDREN part → InOrder n l h part
+    → Sound (suc n) l h (node_over part)
 node_sound n l h [] sizes chain = absurd (omega arith)
 node_sound n l h (child ∷ children) sizes chain = (sizes, refl, chain)
 
 -- Parts of children in order are inner nodes in order.
-pub nodes_in_order : (n first l h : ℕ) (parts : List (List (ℕ × Subtree n))) → AllByRecursion (HasFromTo LEAST_CHILDREN MOST_CHILDREN) parts → InOrder n l h (flat_map (λ part. part) parts)
+pub nodes_in_order : (n first l h : ℕ) (parts : List (List (ℕ × Subtree n))) → AllByRecursion (HasFromTo LEAST_CHILDREN MOST_CHILDREN) parts
+    → InOrder n l h (flat_map (λ part. part) parts)
     → InOrder (suc n) l h (with_lows low_of node_over first parts)
 nodes_in_order n =
     chain_with_lows low_of (Child n) (child_wider n) (child_proper n) node_over (Sound (suc n)) LEAST_CHILDREN MOST_CHILDREN (omega arith) (node_sound n)
 
-pub first_has_low : {X Y : Type 0} (low : X → ℕ) (node : List X → Y) (first : ℕ) (parts : List (List X)) → next_low low_of first (with_lows low node first parts) ≡ first
+pub first_has_low : {X Y : Type 0} (low : X → ℕ) (node : List X → Y) (first : ℕ) (parts : List (List X))
+    → next_low low_of first (with_lows low node first parts) ≡ first
 first_has_low low node first [] = refl
 first_has_low low node first (part ∷ parts) = refl
 
-pub length_with_lows : {X Y : Type 0} (low : X → ℕ) (node : List X → Y) (first : ℕ) (parts : List (List X)) → length (with_lows low node first parts) ≡ length parts
+pub length_with_lows : {X Y : Type 0} (low : X → ℕ) (node : List X → Y) (first : ℕ) (parts : List (List X))
+    → length (with_lows low node first parts) ≡ length parts
 length_with_lows low node first [] = refl
 length_with_lows low node first (part ∷ parts) = ap suc (length-map parts _)
 
@@ -88,19 +96,22 @@ rows_with_lows : {X Y : Type 0} (low : X → ℕ) (node : List X → Y) (rows : 
 rows_with_lows low node rows first [] = refl
 rows_with_lows low node rows first (part ∷ parts) = ap (λ later. rows (node part) ++ later) (later_rows low node rows parts)
 
-pub rows_of_leaves : (first : ℕ) (parts : List (List Row)) → rows_under zero (with_lows row_key (λ part. part) first parts) ≡ flat_map (λ part. part) parts
+pub rows_of_leaves : (first : ℕ) (parts : List (List Row))
+    → rows_under zero (with_lows row_key (λ part. part) first parts) ≡ flat_map (λ part. part) parts
 rows_of_leaves = rows_with_lows row_key (λ part. part) (λ rows. rows)
 
 rows_of_node : (n : ℕ) (part : List (ℕ × Subtree n)) → rows_in (suc n) (node_over part) ≡ rows_under n part
 rows_of_node n [] = refl
 rows_of_node n (child ∷ children) = refl
 
-rows_of_parts : (n : ℕ) (parts : List (List (ℕ × Subtree n))) → flat_map (λ part. rows_in (suc n) (node_over part)) parts ≡ rows_under n (flat_map (λ part. part) parts)
+rows_of_parts : (n : ℕ) (parts : List (List (ℕ × Subtree n)))
+    → flat_map (λ part. rows_in (suc n) (node_over part)) parts ≡ rows_under n (flat_map (λ part. part) parts)
 rows_of_parts n [] = refl
 rows_of_parts n (part ∷ parts) =
     rw (rows_of_node n part, rows_of_parts n parts) (sym (flat_map-append (λ (child : ℕ × Subtree n). rows_in n child.1) part (flat_map (λ part. part) parts)))
 
-pub rows_of_nodes : (n first : ℕ) (parts : List (List (ℕ × Subtree n))) → rows_under (suc n) (with_lows low_of node_over first parts) ≡ rows_under n (flat_map (λ part. part) parts)
+pub rows_of_nodes : (n first : ℕ) (parts : List (List (ℕ × Subtree n)))
+    → rows_under (suc n) (with_lows low_of node_over first parts) ≡ rows_under n (flat_map (λ part. part) parts)
 rows_of_nodes n first parts = rows_with_lows low_of node_over (rows_in (suc n)) first parts ∙ rows_of_parts n parts
 
 pub rows_join : (n : ℕ) (left right : List (ℕ × Subtree n)) → rows_under n (left ++ right) ≡ rows_under n left ++ rows_under n right

@@ -7,7 +7,7 @@ use Rattle.palm_base.specs.Key.{key}
 use Rattle.palm_base.specs.Table.{row_key, put, without, after, after_all}
 use Rattle.palm_base.specs.Pass.{edit_key, goes_left, goes_right}
 use Rattle.palm_base.proofs.Every.{every_filter}
-use Rattle.palm_base.proofs.Tables.{put_before, put_at, put_past, every_put}
+use Rattle.palm_base.proofs.Tables.{Order, put_before, put_at, put_past, every_put}
 use Rattle.palm_base.specs.declared.row.Row.{Row}
 use Rattle.palm_base.specs.declared.call.Call.{Call}
 use Rattle.palm_base.specs.declared.call.Call.TheVariants.{Set, Del, Get, Rate, List as Listing}
@@ -30,7 +30,7 @@ pub put_left : (new : Row) (k : ℕ) (left right : List Row) → row_key new < k
 put_left new k [] right less from = put_front new k right less from
 put_left new k (row ∷ left) right less from = by (put_left new k left right less from) (cases_order (row_key new) (row_key row))
   where
-    by : put new (left ++ right) ≡ put new left ++ right → (row_key new ≡ row_key row) ⊎ ((row_key new < row_key row) ⊎ (row_key row < row_key new)) → put new (row ∷ left ++ right) ≡ put new (row ∷ left) ++ right
+    by : put new (left ++ right) ≡ put new left ++ right → Order new row → put new (row ∷ left ++ right) ≡ put new (row ∷ left) ++ right
     by rest (inl e) = rw (put_at new row (left ++ right) e, put_at new row left e)
     by rest (inr (inl l)) = rw (put_before new row (left ++ right) l, put_before new row left l)
     by rest (inr (inr g)) = rw (put_past new row (left ++ right) g, put_past new row left g) (ap (λ rows. row ∷ rows) rest)
@@ -65,7 +65,8 @@ after_split : (k : ℕ) (left right : List Row) (call : Call) → Under k left �
 after_split k left right (Set prefix rate) under from = by (cases_lt (key prefix) k)
   where
     by : (key prefix < k) ⊎ (k ≤ key prefix)
-        → after (left ++ right) (Set prefix rate) ≡ on (goes_left k (Set prefix rate)) left (Set prefix rate) ++ on (goes_right k (Set prefix rate)) right (Set prefix rate)
+        → after (left ++ right) (Set prefix rate) ≡ on (goes_left k (Set prefix rate)) left (Set prefix rate)
+        ++ on (goes_right k (Set prefix rate)) right (Set prefix rate)
     by (inl l) = rw (lt-ltb (key prefix) k l, lt-leb k (key prefix) l) (put_left (record { prefix = prefix; rate = rate }) k left right l from)
     by (inr g) = rw (le-ltb (key prefix) k g, le-leb k (key prefix) g) (put_right (record { prefix = prefix; rate = rate }) k left right g under)
 after_split k left right (Del prefix) under from = by (cases_lt (key prefix) k)
@@ -73,9 +74,11 @@ after_split k left right (Del prefix) under from = by (cases_lt (key prefix) k)
     by : (key prefix < k) ⊎ (k ≤ key prefix)
         → after (left ++ right) (Del prefix) ≡ on (goes_left k (Del prefix)) left (Del prefix) ++ on (goes_right k (Del prefix)) right (Del prefix)
     by (inl l) =
-        rw (lt-ltb (key prefix) k l, lt-leb k (key prefix) l, filter-append) (ap (λ rows. without (key prefix) left ++ rows) (without_left k (key prefix) right l from))
+        rw (lt-ltb (key prefix) k l, lt-leb k (key prefix) l, filter-append)
+        (ap (λ rows. without (key prefix) left ++ rows) (without_left k (key prefix) right l from))
     by (inr g) =
-        rw (le-ltb (key prefix) k g, le-leb k (key prefix) g, filter-append) (ap (λ rows. rows ++ without (key prefix) right) (without_right k (key prefix) left g under))
+        rw (le-ltb (key prefix) k g, le-leb k (key prefix) g, filter-append)
+        (ap (λ rows. rows ++ without (key prefix) right) (without_right k (key prefix) left g under))
 after_split k left right (Get prefix) under from = rw (on_same (goes_left k (Get prefix)) left, on_same (goes_right k (Get prefix)) right)
 after_split k left right (Rate number) under from = rw (on_same (goes_left k (Rate number)) left, on_same (goes_right k (Rate number)) right)
 after_split k left right (Listing from to limit) under from-k =
@@ -117,7 +120,8 @@ on_adds : (P : ℕ → Type 0) (goes : Bool) (rows : List Row) (call : Call) →
 on_adds P true rows call all adds = after_adds P rows call all (adds refl)
 on_adds P false rows call all adds = all
 
-on_first : (goes : Bool) (rows : List Row) (call : Call) (calls : List Call) → after_all (on goes rows call) calls ≡ after_all rows (cond goes (call ∷ calls) calls)
+on_first : (goes : Bool) (rows : List Row) (call : Call) (calls : List Call)
+    → after_all (on goes rows call) calls ≡ after_all rows (cond goes (call ∷ calls) calls)
 on_first true rows call calls = refl
 on_first false rows call calls = refl
 
@@ -129,4 +133,6 @@ all_split k left right (call ∷ calls) under from =
     let less = on_adds (λ i. i < k) (goes_left k call) left call under (λ goes set. ltb-true (edit_key call) k goes) in
     let least = on_adds (λ i. k ≤ i) (goes_right k call) right call from (λ goes set. leb-true k (edit_key call) goes) in
     let rest = all_split k (on (goes_left k call) left call) (on (goes_right k call) right call) calls less least in
-    rw (after_split k left right call under from, rest, on_first (goes_left k call) left call (filter (goes_left k) calls), on_first (goes_right k call) right call (filter (goes_right k) calls))
+    let first_left = on_first (goes_left k call) left call (filter (goes_left k) calls) in
+    let first_right = on_first (goes_right k call) right call (filter (goes_right k) calls) in
+    rw (after_split k left right call under from, rest, first_left, first_right)

@@ -10,6 +10,10 @@ use Rattle.palm_base.specs.declared.row.Row.{Row}
 use Rattle.palm_base.specs.declared.call.Call.{Call}
 use Rattle.palm_base.specs.declared.call.Call.TheVariants.{Set, Del, Get, Rate, List as Listing}
 
+-- One row's key is another's, or lies below it, or above it.
+abbrev pub Order : Row → Row → Type 0
+Order one other = (row_key one ≡ row_key other) ⊎ ((row_key one < row_key other) ⊎ (row_key other < row_key one))
+
 -- The key lies below those of all rows.
 abbrev pub Below : ℕ → List Row → Type 0
 Below k rows = AllByRecursion (λ later. k < row_key later) rows
@@ -31,7 +35,7 @@ pub every_put : (P : Row → Type 0) (new : Row) (rows : List Row) → P new →
 every_put P new [] one all = (one, tt)
 every_put P new (row ∷ rows) one all = by (every_put P new rows one all.1) (cases_order (row_key new) (row_key row))
   where
-    by : AllByRecursion P (put new rows) → (row_key new ≡ row_key row) ⊎ ((row_key new < row_key row) ⊎ (row_key row < row_key new)) → AllByRecursion P (put new (row ∷ rows))
+    by : AllByRecursion P (put new rows) → Order new row → AllByRecursion P (put new (row ∷ rows))
     by rest (inl e) = rw (put_at new row rows e) (one, all.1)
     by rest (inr (inl l)) = rw (put_before new row rows l) (one, all)
     by rest (inr (inr g)) = rw (put_past new row rows g) (all.0, rest)
@@ -40,7 +44,7 @@ put_keeps : (new : Row) (rows : List Row) → IsTable rows → IsTable (put new 
 put_keeps new [] table = (tt, tt)
 put_keeps new (row ∷ rows) table = by (put_keeps new rows table.1) (cases_order (row_key new) (row_key row))
   where
-    by : IsTable (put new rows) → (row_key new ≡ row_key row) ⊎ ((row_key new < row_key row) ⊎ (row_key row < row_key new)) → IsTable (put new (row ∷ rows))
+    by : IsTable (put new rows) → Order new row → IsTable (put new (row ∷ rows))
     by rest (inl e) = rw (put_at new row rows e) (below_all (row_key new) (row_key row) rows (omega arith) table.0, table.1)
     by rest (inr (inl l)) = rw (put_before new row rows l) ((l, below_all (row_key new) (row_key row) rows (omega arith) table.0), table)
     by rest (inr (inr g)) = rw (put_past new row rows g) (every_put (λ later. row_key row < row_key later) new rows g table.0, rest)

@@ -25,14 +25,17 @@ sound_root (suc n) h children sound = ((omega arith, sound.0.1), sound.1, sound.
 nodes_fewer : (n : ℕ) (pieces : List (ℕ × Subtree n)) → MOST_CHILDREN < length pieces → length (nodes_over 0 pieces) < length pieces
 nodes_fewer n pieces many = rw (length_with_lows low_of node_over 0 (cut MOST_CHILDREN pieces)) (cut_fewer LEAST_CHILDREN pieces (omega arith) many)
 
-nodes_hold : (n h : ℕ) (pieces : List (ℕ × Subtree n)) → MOST_CHILDREN < length pieces → InOrder n 0 h pieces → InOrder (suc n) 0 h (nodes_over 0 pieces)
+nodes_hold : (n h : ℕ) (pieces : List (ℕ × Subtree n)) → MOST_CHILDREN < length pieces → InOrder n 0 h pieces
+    → InOrder (suc n) 0 h (nodes_over 0 pieces)
 nodes_hold n h pieces many chain =
-    nodes_in_order n 0 0 h (cut MOST_CHILDREN pieces) (cut_sizes LEAST_CHILDREN pieces (omega arith) many) (rw (pieces_join MOST_CHILDREN pieces (omega arith)) chain)
+    nodes_in_order n 0 0 h (cut MOST_CHILDREN pieces) (cut_sizes LEAST_CHILDREN pieces (omega arith) many)
+    (rw (pieces_join MOST_CHILDREN pieces (omega arith)) chain)
 
 nodes_rows : (n : ℕ) (pieces : List (ℕ × Subtree n)) → rows_under (suc n) (nodes_over 0 pieces) ≡ rows_under n pieces
 nodes_rows n pieces = rows_of_nodes n 0 (cut MOST_CHILDREN pieces) ∙ ap (rows_under n) (pieces_join MOST_CHILDREN pieces (omega arith))
 
-top_in_holds : (levels n h : ℕ) (pieces : List (ℕ × Subtree n)) → length pieces ≤ levels → InOrder n 0 h pieces → IsTreeOf h (rows_under n pieces) (top_in levels n pieces)
+top_in_holds : (levels n h : ℕ) (pieces : List (ℕ × Subtree n)) → length pieces ≤ levels → InOrder n 0 h pieces
+    → IsTreeOf h (rows_under n pieces) (top_in levels n pieces)
 unfolding top_in
 top_in_holds levels n h [] fit chain = record { root = (omega arith, tt); same = refl }
 top_in_holds levels n h (piece ∷ []) fit chain = record { root = sound_root n h piece.1 chain.0.1; same = sym (append-nil (rows_in n piece.1)) }
@@ -60,7 +63,8 @@ top_holds n h pieces chain = top_in_holds (length pieces) n h pieces (omega arit
 -- ---- the rule for many pieces
 
 -- More levels than pieces change nothing.
-levels_suffice : (levels others n : ℕ) (pieces : List (ℕ × Subtree n)) → length pieces ≤ levels → length pieces ≤ others → top_in levels n pieces ≡ top_in others n pieces
+levels_suffice : (levels others n : ℕ) (pieces : List (ℕ × Subtree n)) → length pieces ≤ levels → length pieces ≤ others
+    → top_in levels n pieces ≡ top_in others n pieces
 unfolding top_in
 levels_suffice levels others n [] fit fit_others = refl
 levels_suffice levels others n (piece ∷ []) fit fit_others = refl
@@ -88,4 +92,5 @@ top_of_many n (piece ∷ []) many = absurd (omega arith)
 top_of_many n (piece ∷ next ∷ more) many =
     let fewer = nodes_fewer n (piece ∷ next ∷ more) many in
     let higher = nodes_over 0 (piece ∷ next ∷ more) in
-    rw (lt-leb (length (piece ∷ next ∷ more)) MOST_CHILDREN many) (levels_suffice (suc (length more)) (length higher) (suc n) higher (omega arith) (omega arith))
+    rw (lt-leb (length (piece ∷ next ∷ more)) MOST_CHILDREN many)
+    (levels_suffice (suc (length more)) (length higher) (suc n) higher (omega arith) (omega arith))

@@ -1,12 +1,13 @@
 -- Worked examples of the serial rule and of a tree's shape, which the checker computes. Prefixes of two digits are meant
 -- by their numbers, and each has its number as its rate.
-use Rattle.std.proofs.Common.{◌≡◌, ℕ, zero, suc, ◌/◌, ◌%◌, List, [], ◌∷◌, ◌++◌, map, refl}
+use Rattle.std.proofs.Common.{◌≡◌, ℕ, zero, suc, ◌/◌, ◌%◌, List, [], ◌∷◌, ◌++◌, length, map, take, refl, arith}
 use Rattle.std.specs.Prelude.{codes, replicate}
 use Rattle.std.specs.Fmt.{digits}
 use Rattle.palm_base.specs.Key.{key}
 use Rattle.palm_base.specs.Cut.{cut}
-use Rattle.palm_base.specs.Tree.{Tree}
+use Rattle.palm_base.specs.Tree.{Tree, levels_of}
 use Rattle.palm_base.specs.Pass.{set_of, leaf_outcome, pass, top, top_in, batch_tree, tree_after}
+use Rattle.palm_base.specs.Lawful.{IsLawful}
 use Rattle.palm_base.specs.Shape.{shape_text}
 use Rattle.palm_base.specs.declared.row.Row.{Row}
 use Rattle.palm_base.specs.declared.call.Call.{Call}
@@ -112,11 +113,44 @@ three p = (p / 100) ∷ (p / 10 % 10) ∷ (p % 10) ∷ []
 abbrev longer_rows : ℕ → ℕ → List Row
 longer_rows first count = map (λ p. record { prefix = three p; rate = p }) (counted first count)
 
--- Of 400 rows all but 10 are taken out: the inner nodes are left with too few children, and what is under them comes
+abbrev tree_of_400 : Tree
+tree_of_400 = batch_tree empty (map set_of (longer_rows 100 400))
+
+-- 400 rows make 25 leaves of 16, over which stand inner nodes of 13 and 12 children, and the root.
+sets-400 : levels_of tree_of_400 ≡ 3
+unfolding cut top pass top_in
+sets-400 = refl
+
+-- Its shape begins so: the root, and then the first of the two inner nodes.
+abbrev front_of_400 : List ℕ
+front_of_400 = codes "tree 3 400\ninner 2 308\ninner 13 116"
+
+shape-400 : take (length front_of_400) (shape_text tree_of_400) ≡ front_of_400
+unfolding cut top pass top_in digits
+shape-400 = refl
+
+-- Of them all but 10 are taken out: the inner nodes are left with too few children, and what is under them comes
 -- back to a leaf that is the root.
-dels-390 : batch_tree (batch_tree empty (map set_of (longer_rows 100 400))) (map (λ p. Del (three p)) (counted 110 390)) ≡ (zero, longer_rows 100 10)
+dels-390 : batch_tree tree_of_400 (map (λ p. Del (three p)) (counted 110 390)) ≡ (zero, longer_rows 100 10)
 unfolding cut top pass top_in
 dels-390 = refl
+
+-- ---- lawful trees
+
+lawful-empty : IsLawful empty
+lawful-empty = (0, (omega arith, tt))
+
+-- A root over one leaf isn't lawful: the leaf would be the root.
+unlawful-alone : IsLawful (suc zero, (0, rows 10 9) ∷ []) → ⊥
+unlawful-alone lawful = let sizes = lawful.1.0 in absurd (omega arith)
+
+-- Nor is a leaf below the root that has 7 rows.
+unlawful-few : IsLawful (suc zero, (0, rows 10 7) ∷ (key (two 17), rows 17 8) ∷ []) → ⊥
+unlawful-few lawful = let sizes = lawful.1.2.0.1.0 in absurd (omega arith)
+
+-- Nor is a leaf of two rows with one key.
+unlawful-twice : IsLawful (zero, row 10 ∷ row 10 ∷ []) → ⊥
+unlawful-twice lawful = let first = lawful.1.1.0 in absurd (omega arith)
 
 -- ---- shapes
 

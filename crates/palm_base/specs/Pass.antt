@@ -34,11 +34,11 @@ edit_key (Get prefix) = key prefix
 edit_key (Rate number) = key number
 edit_key (Listing from to limit) = key from
 
--- An edit goes left of a separator that is above its key, and right of one that isn't. So Del 44 goes left of 45, and
--- right of 44.
+-- The edit goes left of a separator: its key is below it. So Del 44 goes left of 45.
 abbrev pub goes_left : ℕ → Call → Bool
 goes_left low edit = nat_lt (edit_key edit) low
 
+-- The edit goes right of a separator: its key isn't below it. So Del 44 goes right of 44, and of 4.
 abbrev pub goes_right : ℕ → Call → Bool
 goes_right low edit = nat_le low (edit_key edit)
 
@@ -48,11 +48,11 @@ set_of row = Set row.prefix row.rate
 
 -- ---- nodes made of parts
 
--- The rows under these children, from left to right.
+-- The rows under these children, from left to right. So under the leaves of 1, 10 and of 2 they are 1, 10, 2.
 abbrev pub rows_under : (n : ℕ) → List (ℕ × Subtree n) → List Row
 rows_under n children = rows_in (suc n) children
 
--- The low of the first item, or 0 where there is none.
+-- The low of the first item, or 0 where there is none. So that of (3, a), (7, b) is 3.
 abbrev pub first_low : {X : Type 0} → (X → ℕ) → List X → ℕ
 first_low low [] = 0
 first_low low (x ∷ xs) = low x
@@ -80,11 +80,12 @@ nodes_over low children = with_lows (λ child. child.0) node_over low (cut MOST_
 -- ---- the pass
 
 -- What becomes of a node: the pieces in its place, each with its low, and the rows of what was removed.
+-- So a leaf of 8 rows from which one is taken out has no piece, and 7 loose rows.
 pub record Outcome (n : ℕ) : Type 0 where
   pub pieces : List (ℕ × Subtree n)
   pub loose : List Row
 
--- Two outcomes side by side, in order.
+-- Two outcomes side by side, in order. So with the pieces p and q, r they have p, q, r.
 abbrev pub joined : {n : ℕ} → Outcome n → Outcome n → Outcome n
 joined left right = record { pieces = left.pieces ++ right.pieces; loose = left.loose ++ right.loose }
 
@@ -117,7 +118,8 @@ inner_outcome n low left =
     if is_small LEAST_CHILDREN left.pieces then record { pieces = []; loose = rows_under n left.pieces ++ left.loose } else nodes
 
 -- What becomes of a node below the root, with all that is under it, by the edits that go to it: a leaf's rows are edited
--- in the order of the edits, and an inner node has the pieces of its children in their place.
+-- in the order of the edits, and an inner node has the pieces of its children in their place. The low is the bound that
+-- the node has from above, and its first piece keeps it. So a leaf of 16 rows has by one Set more pieces of 9 and 8.
 unfoldable pub pass : (n : ℕ) → ℕ → Subtree n → List Call → Outcome n
 pass zero low rows edits = leaf_outcome low (after_all rows edits)
 pass (suc n) low children edits = inner_outcome n low (below n (pass n) children edits)
@@ -140,24 +142,25 @@ top_in (suc levels) n (piece ∷ next ∷ more) =
 unfoldable pub top : (n : ℕ) → List (ℕ × Subtree n) → Tree
 top n pieces = top_in (length pieces) n pieces
 
--- The level of what a root is passed into: a leaf's own, and the one below an inner root.
+-- The level of what a root is passed into: a leaf's own, and the one below an inner root. So under a root over leaves it
+-- is 0, that of the leaves.
 abbrev pub base_level : ℕ → ℕ
 base_level zero = zero
 base_level (suc n) = n
 
 -- What becomes of what is under a root: a root leaf is cut, with nothing loose however few its rows, and an inner root's
--- children are passed. The root itself is made anew by `top`.
+-- children are passed. The root itself is made anew by `top`. So a root leaf left with 3 rows is one piece of 3.
 abbrev pub base_pass : (n : ℕ) → Subtree n → List Call → Outcome (base_level n)
 base_pass zero rows edits = record { pieces = leaves_of 0 (after_all rows edits); loose = [] }
 base_pass (suc n) children edits = below n (pass n) children edits
 
 -- ---- the batch
 
--- The tree after one pass and the root over its pieces.
+-- The tree after one pass, and the root over its pieces. Its loose rows aren't in it.
 abbrev pub passed_tree : Tree → List Call → Tree
 passed_tree tree edits = top (base_level tree.0) (base_pass tree.0 tree.1 edits).pieces
 
--- The rows that a pass leaves loose, in rising order.
+-- The orphans: the rows that a pass leaves loose, in rising order. So of 2, 20 and then 1 they are 1, 2, 20.
 abbrev pub orphans_of : Tree → List Call → List Row
 orphans_of tree edits = after_all [] (map set_of (base_pass tree.0 tree.1 edits).loose)
 
@@ -169,7 +172,8 @@ batch_tree tree calls =
     let edits = filter is_edit calls in
     passed_tree (passed_tree tree edits) (map set_of (orphans_of tree edits))
 
--- The tree that a history leaves, cut in batches of these lengths. The shape depends on the cutting, the rows don't.
+-- The tree that a history leaves, cut in batches of these lengths. The shape depends on the cutting, the rows don't: 34
+-- Sets in one batch make leaves of 12, 11 and 11, and one by one leaves of 9, 9 and 16.
 abbrev pub tree_after : Tree → List Entry → List ℕ → Tree
 tree_after tree entries [] = tree
 tree_after tree entries (n ∷ lengths) = tree_after (batch_tree tree (calls_of (take n entries))) (drop n entries) lengths

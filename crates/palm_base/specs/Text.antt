@@ -12,7 +12,7 @@ digits_text digits = map (λ d. d + 48) digits
 abbrev pub row_text : Row → List ℕ
 row_text row = digits_text row.prefix ++ (codes " " ++ decimal row.rate)
 
--- A row of a list, after a blank.
+-- A row of a list, after a blank. So that of 44 at 5 is " 44 5".
 abbrev pub listed_row_text : Row → List ℕ
 listed_row_text row = codes " " ++ row_text row
 
