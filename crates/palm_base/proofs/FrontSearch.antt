@@ -19,7 +19,8 @@ Within n (Some row) = length row.prefix ≤ n
 -- A front of n digits finds no row of more.
 fronts_within : (n : ℕ) (number : List ℕ) (rows : List Row) → n ≤ length number → Within n (first_front n number rows)
 fronts_within zero number rows few = tt
-fronts_within (suc n) number rows few = by (rate_at (key (take (suc n) number)) rows) (first_front n number rows) (fronts_within n number rows (omega arith))
+fronts_within (suc n) number rows few =
+    by (rate_at (key (take (suc n) number)) rows) (first_front n number rows) (fronts_within n number rows (omega arith))
   where
     by : (rate : Option ℕ) (other : Option Row) → Within n other → Within (suc n) (row_or (take (suc n) number) other rate)
     by None None within = tt
@@ -77,22 +78,26 @@ fronts_longer : (n : ℕ) (number : List ℕ) (row : Row) (rows : List Row) → 
     → row.prefix ≡ take (length row.prefix) number → length row.prefix ≤ n
     → first_front n number (row ∷ rows) ≡ longer row (first_front n number rows)
 fronts_longer zero number row rows a b few front long = absurd (omega (arith, b.some))
-fronts_longer (suc n) number row rows a b few front long = by (fronts_longer n number row rows a b (omega arith) front) (cases_lt (length row.prefix) (suc n))
+fronts_longer (suc n) number row rows a b few front long =
+    by (fronts_longer n number row rows a b (omega arith) front) (cases_lt (length row.prefix) (suc n))
   where
     -- the front is longer than the row's prefix
     past : length row.prefix < suc n → (rate : Option ℕ) (other : Option Row)
         → row_or (take (suc n) number) (longer row other) rate ≡ longer row (row_or (take (suc n) number) other rate)
     past short None other = refl
-    past short (Some rate) other = rw (lt-ltb (length row.prefix) (length (take (suc n) number)) (omega (arith, length-take-le (suc n) number few))) refl
+    past short (Some rate) other =
+        rw (lt-ltb (length row.prefix) (length (take (suc n) number)) (omega (arith, length-take-le (suc n) number few))) refl
 
     -- the front is the row's prefix
     here : length row.prefix ≡ suc n → (rate : Option ℕ) (other : Option Row) → Within n other
         → Some row ≡ longer row (row_or (take (suc n) number) other rate)
     here same None other within = sym (longer_past n row other (omega arith) within)
-    here same (Some rate) other within = rw (le-ltb (length row.prefix) (length (take (suc n) number)) (omega (arith, length-take-le (suc n) number few))) refl
+    here same (Some rate) other within =
+        rw (le-ltb (length row.prefix) (length (take (suc n) number)) (omega (arith, length-take-le (suc n) number few))) refl
 
     by : (length row.prefix ≤ n → first_front n number (row ∷ rows) ≡ longer row (first_front n number rows))
-        → (length row.prefix < suc n) ⊎ (suc n ≤ length row.prefix) → first_front (suc n) number (row ∷ rows) ≡ longer row (first_front (suc n) number rows)
+        → (length row.prefix < suc n) ⊎ (suc n ≤ length row.prefix)
+        → first_front (suc n) number (row ∷ rows) ≡ longer row (first_front (suc n) number rows)
     by rest (inl short) =
         rw (
           rate_past (key (take (suc n) number)) row rows (length_apart n number row a b few (λ same. omega arith)),

@@ -21,7 +21,10 @@ has_other k row other = rw (ne_eqb (row_key row) k other) refl
 
 none_below : (k : ℕ) (rows : List Row) → Below k rows → sum_by (has k) rows ≡ 0
 none_below k [] below = refl
-none_below k (row ∷ rows) below = let none = has_other k row (λ same. omega (arith, below.0)) in let rest = none_below k rows below.1 in rw sum_by-cons (omega arith)
+none_below k (row ∷ rows) below =
+    let none = has_other k row (λ same. omega (arith, below.0)) in
+    let rest = none_below k rows below.1 in
+    rw sum_by-cons (omega arith)
 
 -- Of a table at most one row has a key.
 pub one_each : (k : ℕ) (rows : List Row) → IsTable rows → sum_by (has k) rows ≤ 1
@@ -42,7 +45,8 @@ above : (k : ℕ) (rows : List Row) → AllByRecursion (λ row. k ≤ row_key ro
 above k [] least none = tt
 above k (row ∷ rows) least none = by (rw sum_by-cons at none) (above k rows least.1) (cases_order (row_key row) k)
   where
-    by : has k row + sum_by (has k) rows ≡ 0 → (sum_by (has k) rows ≡ 0 → Below k rows) → (row_key row ≡ k) ⊎ ((row_key row < k) ⊎ (k < row_key row)) → Below k (row ∷ rows)
+    by : has k row + sum_by (has k) rows ≡ 0 → (sum_by (has k) rows ≡ 0 → Below k rows)
+        → (row_key row ≡ k) ⊎ ((row_key row < k) ⊎ (k < row_key row)) → Below k (row ∷ rows)
     by total rest (inl same) = let one = has_key k row same in absurd (omega arith)
     by total rest (inr (inl less)) = absurd (omega (arith, least.0))
     by total rest (inr (inr more)) = (more, rest (omega arith))
@@ -51,10 +55,13 @@ above k (row ∷ rows) least none = by (rw sum_by-cons at none) (above k rows le
 pub distinct_is_table : (rows : List Row) → IsNonDecreasingBy row_key rows → ((k : ℕ) → sum_by (has k) rows ≤ 1) → IsTable rows
 distinct_is_table [] up once = tt
 distinct_is_table (row ∷ rows) up once =
-    let least : AllByRecursion (λ later. row_key row ≤ row_key later) rows = recursion_from_All (λ later. row_key row ≤ row_key later) rows (λ i d inside. up 0 (suc i) d (omega arith) (omega arith)) in
+    let least : AllByRecursion (λ later. row_key row ≤ row_key later) rows =
+    recursion_from_All (λ later. row_key row ≤ row_key later) rows (λ i d inside. up 0 (suc i) d (omega arith) (omega arith)) in
     let one = has_key (row_key row) row refl in
-    let own : has (row_key row) row + sum_by (has (row_key row)) rows ≤ 1 = rw sum_by-cons at (once (row_key row)) in
-    (above (row_key row) rows least (omega arith), distinct_is_table rows (λ i j d order inside. up (suc i) (suc j) d (omega arith) (omega arith)) (λ k. rest k (rw sum_by-cons at (once k))))
+    let own : has (row_key row) row + sum_by (has (row_key row)) rows ≤ 1 = rw sum_by-cons at (once (row_key row)) in (
+      above (row_key row) rows least (omega arith),
+      distinct_is_table rows (λ i j d order inside. up (suc i) (suc j) d (omega arith) (omega arith)) (λ k. rest k (rw sum_by-cons at (once k))),
+    )
   where
     rest : (k : ℕ) → has k row + sum_by (has k) rows ≤ 1 → sum_by (has k) rows ≤ 1
     rest k all = omega arith

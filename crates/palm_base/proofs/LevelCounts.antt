@@ -92,7 +92,8 @@ node_holds (suc n) l h children sound =
     mul-le-mul_right (LEAST_LEAF_ROWS * LEAST_CHILDREN ^ n) sound.0.0 in
     rw pow-suc (omega arith)
 
-root_holds : (n h : ℕ) (children : List (ℕ × Subtree n)) → Root (suc n) h children → 2 * (LEAST_LEAF_ROWS * LEAST_CHILDREN ^ n) ≤ length (rows_under n children)
+root_holds : (n h : ℕ) (children : List (ℕ × Subtree n)) → Root (suc n) h children
+    → 2 * (LEAST_LEAF_ROWS * LEAST_CHILDREN ^ n) ≤ length (rows_under n children)
 root_holds n h children root =
     let all = children_hold n (LEAST_LEAF_ROWS * LEAST_CHILDREN ^ n) (node_holds n) 0 h children root.2 in
     let least : 2 * (LEAST_LEAF_ROWS * LEAST_CHILDREN ^ n) ≤ length children * (LEAST_LEAF_ROWS * LEAST_CHILDREN ^ n) =
@@ -114,7 +115,8 @@ low (suc n) h children root prefixes = by (cases_lt n 16)
     by (inr more) =
         let many = root_holds n h children root in
         let up : LEAST_CHILDREN ^ 16 ≤ LEAST_CHILDREN ^ n = pow-le-pow_right (omega arith) more in
-        let few = prefixes_are_few (rows_under n children) (rising_is_table 0 h (rows_under n children) (in_order_rises n 0 h children root.2)) prefixes in
+        let few =
+        prefixes_are_few (rows_under n children) (rising_is_table 0 h (rows_under n children) (in_order_rises n 0 h children root.2)) prefixes in
         absurd (omega arith)
 
 pub lawful_trees_are_low : LawfulTreesAreLow

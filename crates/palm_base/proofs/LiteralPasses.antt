@@ -18,7 +18,8 @@ below_agrees : (n : ℕ) → PassAgrees n → (children : List (ℕ × Subtree n
 below_agrees n agrees [] edits nodes = refl
 below_agrees n agrees (child ∷ []) edits nodes = agrees child.0 child.1 edits nodes.0
 below_agrees n agrees (child ∷ next ∷ children) edits nodes =
-    ap (λ left. joined left (below n (pass n) (next ∷ children) (filter (goes_right next.0) edits))) (agrees child.0 child.1 (filter (goes_left next.0) edits) nodes.0)
+    ap (λ left. joined left (below n (pass n) (next ∷ children) (filter (goes_right next.0) edits)))
+    (agrees child.0 child.1 (filter (goes_left next.0) edits) nodes.0)
     ∙ ap (joined (pass_by_place n child.0 child.1 (filter (goes_left next.0) edits))) (below_agrees n agrees (next ∷ children) (filter (goes_right next.0) edits) nodes.1)
 
 pass_agrees : (n : ℕ) → PassAgrees n

@@ -13,11 +13,13 @@ use Rattle.palm_base.specs.declared.call.Call.{Call}
 -- ---- tests
 
 -- A list filtered twice is filtered by both tests.
-filter_twice : {X : Type 0} (both first second : X → Bool) → ((x : X) → both x ≡ (first x && second x)) → (xs : List X) → filter both xs ≡ filter second (filter first xs)
+filter_twice : {X : Type 0} (both first second : X → Bool) → ((x : X) → both x ≡ (first x && second x)) → (xs : List X)
+    → filter both xs ≡ filter second (filter first xs)
 filter_twice both first second agree [] = refl
 filter_twice both first second agree (x ∷ xs) = rw (agree x, filter_twice both first second agree xs) (by (first x) (second x) refl)
   where
-    by : (a b : Bool) → second x ≡ b → cond (a && b) (x ∷ filter second (filter first xs)) (filter second (filter first xs)) ≡ filter second (cond a (x ∷ filter first xs) (filter first xs))
+    by : (a b : Bool) → second x ≡ b
+        → cond (a && b) (x ∷ filter second (filter first xs)) (filter second (filter first xs)) ≡ filter second (cond a (x ∷ filter first xs) (filter first xs))
     by true b is = rw is refl
     by false b is = refl
 
@@ -31,12 +33,14 @@ none_has : {X : Type 0} (k : ℕ) (children : List (ℕ × X)) → AllByRecursio
 none_has k [] above = refl
 none_has k (child ∷ children) above = rw (lt-leb child.0 k above.0) (none_has k children above.1)
 
-above_all : {X : Type 0} (k low : ℕ) (children : List (ℕ × X)) → k < low → AllByRecursion (λ child. low < child.0) children → AllByRecursion (λ child. k < child.0) children
+above_all : {X : Type 0} (k low : ℕ) (children : List (ℕ × X)) → k < low → AllByRecursion (λ child. low < child.0) children
+    → AllByRecursion (λ child. k < child.0) children
 above_all k low [] less above = tt
 above_all k low (child ∷ children) less above = (omega (arith, above.0), above_all k low children less above.1)
 
 -- Where lows rise, some is at most k exactly where the first is.
-first_has : {X : Type 0} (k : ℕ) (child : ℕ × X) (children : List (ℕ × X)) → LowsRise (child ∷ children) → has_low k (child ∷ children) ≡ nat_le child.0 k
+first_has : {X : Type 0} (k : ℕ) (child : ℕ × X) (children : List (ℕ × X)) → LowsRise (child ∷ children)
+    → has_low k (child ∷ children) ≡ nat_le child.0 k
 first_has k child children rise = by (cases_lt k child.0)
   where
     by : (k < child.0) ⊎ (child.0 ≤ k) → has_low k (child ∷ children) ≡ nat_le child.0 k
@@ -86,13 +90,17 @@ edits_go_by_place n go (child ∷ []) edits rise =
     let here : Call → Bool = λ edit. last_place (edit_key edit) (child ∷ []) == 0 in
     sym (joined_none (go child.0 child.1 (filter here edits)) ∙ ap (go child.0 child.1) (filter_always here (λ edit. refl) edits))
 edits_go_by_place n go (child ∷ next ∷ children) edits rise =
-    let here : (edit : Call) → goes_left next.0 edit ≡ (last_place (edit_key edit) (child ∷ next ∷ children) == 0) =
-    (λ edit. left_is_not_right next.0 (edit_key edit) ∙ ap not (sym (first_has (edit_key edit) next children rise.1)) ∙ sym (stays_here (has_low (edit_key edit) (next ∷ children)) (last_place (edit_key edit) (next ∷ children)))) in
-    let on : (i : ℕ) (edit : Call) → (last_place (edit_key edit) (child ∷ next ∷ children) == i + 1) ≡ (goes_right next.0 edit && (last_place (edit_key edit) (next ∷ children) == i)) =
-    (λ i edit. goes_on_by_one (has_low (edit_key edit) (next ∷ children)) (last_place (edit_key edit) (next ∷ children)) i
-    ∙ ap (λ some. some && (last_place (edit_key edit) (next ∷ children) == i)) (first_has (edit_key edit) next children rise.1)) in
-    let first = filter_agree (goes_left next.0) (λ edit. last_place (edit_key edit) (child ∷ next ∷ children) == 0) here edits in
-    let rest = edits_go_by_place n go (next ∷ children) (filter (goes_right next.0) edits) rise.1 in
-    let shift = places_shift n go (λ edit. last_place (edit_key edit) (child ∷ next ∷ children)) (λ edit. last_place (edit_key edit) (next ∷ children)) (goes_right next.0) on 0 (next ∷ children) edits in
-    ap (λ part. joined (go child.0 child.1 part) (below n go (next ∷ children) (filter (goes_right next.0) edits))) first
-    ∙ ap (joined (go child.0 child.1 (filter (λ edit. last_place (edit_key edit) (child ∷ next ∷ children) == 0) edits))) (rest ∙ sym shift)
+    let m = next.0 in
+    let place_of : Call → ℕ = λ edit. last_place (edit_key edit) (child ∷ next ∷ children) in
+    let later_of : Call → ℕ = λ edit. last_place (edit_key edit) (next ∷ children) in
+    let some : Call → Bool = λ edit. has_low (edit_key edit) (next ∷ children) in
+    let some_is : (edit : Call) → some edit ≡ goes_right m edit = λ edit. first_has (edit_key edit) next children rise.1 in
+    let here : (edit : Call) → goes_left m edit ≡ (place_of edit == 0) =
+    (λ edit. left_is_not_right m (edit_key edit) ∙ ap not (sym (some_is edit)) ∙ sym (stays_here (some edit) (later_of edit))) in
+    let on : (i : ℕ) (edit : Call) → (place_of edit == i + 1) ≡ (goes_right m edit && (later_of edit == i)) =
+    (λ i edit. goes_on_by_one (some edit) (later_of edit) i ∙ ap (λ goes. goes && (later_of edit == i)) (some_is edit)) in
+    let first = filter_agree (goes_left m) (λ edit. place_of edit == 0) here edits in
+    let rest = edits_go_by_place n go (next ∷ children) (filter (goes_right m) edits) rise.1 in
+    let shift = places_shift n go place_of later_of (goes_right m) on 0 (next ∷ children) edits in
+    ap (λ part. joined (go child.0 child.1 part) (below n go (next ∷ children) (filter (goes_right m) edits))) first
+    ∙ ap (joined (go child.0 child.1 (filter (λ edit. place_of edit == 0) edits))) (rest ∙ sym shift)

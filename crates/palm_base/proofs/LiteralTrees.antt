@@ -18,7 +18,8 @@ use Rattle.palm_base.specs.declared.row.Row.{Row}
 -- ---- from the literal form
 
 -- Rising rows apart at a key between them.
-rising_parts : (l m h : ℕ) (left right : List Row) → Rising l h (left ++ right) → l ≤ m → Under m left → From m right → Rising l m left × Rising m h right
+rising_parts : (l m h : ℕ) (left right : List Row) → Rising l h (left ++ right) → l ≤ m → Under m left → From m right
+    → Rising l m left × Rising m h right
 rising_parts l m h [] [] rise lm under from = (tt, tt)
 rising_parts l m h [] (row ∷ right) rise lm under from =
     let inside = rising_head l h row right rise in
@@ -36,7 +37,8 @@ has_rows (suc n) (child ∷ children) filled =
     simp length-append (omega arith)
 
 -- The rows under children lie from the first one's low on.
-rows_from : (n m : ℕ) (child : ℕ × Subtree n) (children : List (ℕ × Subtree n)) → LowsRise (child ∷ children) → RowsArePlaced n (child ∷ children) → m ≤ child.0 → From m (rows_under n (child ∷ children))
+rows_from : (n m : ℕ) (child : ℕ × Subtree n) (children : List (ℕ × Subtree n)) → LowsRise (child ∷ children)
+    → RowsArePlaced n (child ∷ children) → m ≤ child.0 → From m (rows_under n (child ∷ children))
 rows_from n m child [] lows placed least =
     rw append-nil (every_weaker (λ row. child.0 ≤ row_key row) (λ row. m ≤ row_key row) (λ row from. omega arith) (rows_in n child.1) placed.0)
 rows_from n m child (next ∷ children) lows placed least =
@@ -50,16 +52,21 @@ bound_below l h m [] right rise some under = absurd (omega arith)
 bound_below l h m (row ∷ left) right rise some under = let inside = rising_head l h row (left ++ right) rise in omega arith
 
 children_in_order : (n : ℕ) → ((l h : ℕ) (node : Subtree n) → IsNode n node → Rising l h (rows_in n node) → Sound n l h node)
-    → (l h : ℕ) (children : List (ℕ × Subtree n)) → LowsRise children → RowsArePlaced n children → AllByRecursion (λ child. IsNode n child.1) children → Rising l h (rows_under n children)
+    → (l h : ℕ) (children : List (ℕ × Subtree n)) → LowsRise children → RowsArePlaced n children
+    → AllByRecursion (λ child. IsNode n child.1) children → Rising l h (rows_under n children)
     → InOrder n l h children
 children_in_order n sound l h [] lows placed nodes rise = tt
 children_in_order n sound l h (child ∷ []) lows placed nodes rise =
     let own : Rising l h (rows_in n child.1) = rw append-nil at rise in
-    let proper = bound_below l h h (rows_in n child.1) [] rise (has_rows n child.1 nodes.0) (under_range l h (rows_in n child.1) (rising_range l h (rows_in n child.1) own)) in
+    let proper =
+    bound_below l h h (rows_in n child.1) [] rise (has_rows n child.1 nodes.0)
+    (under_range l h (rows_in n child.1) (rising_range l h (rows_in n child.1) own)) in
     ((proper, sound l h child.1 nodes.0 own), tt)
 children_in_order n sound l h (child ∷ next ∷ children) lows placed nodes rise =
     let proper = bound_below l h next.0 (rows_in n child.1) (rows_under n (next ∷ children)) rise (has_rows n child.1 nodes.0) placed.1 in
-    let parts = rising_parts l next.0 h (rows_in n child.1) (rows_under n (next ∷ children)) rise (omega arith) placed.1 (rows_from n next.0 next children lows.1 placed.2 (omega arith)) in
+    let parts =
+    rising_parts l next.0 h (rows_in n child.1) (rows_under n (next ∷ children)) rise (omega arith) placed.1
+    (rows_from n next.0 next children lows.1 placed.2 (omega arith)) in
     ((proper, sound l next.0 child.1 nodes.0 parts.0), children_in_order n sound next.0 h (next ∷ children) lows.1 placed.2 nodes.1 parts.1)
 
 first_is_next : (n : ℕ) (children : List (ℕ × Subtree n)) → AreSeparated n children → next_low (λ child. child.0) 0 children ≡ 0
@@ -78,7 +85,8 @@ root_from (suc n) h children root rise =
 
 -- ---- to the literal form
 
-rows_placed : (n l h : ℕ) (child : ℕ × Subtree n) (children : List (ℕ × Subtree n)) → InOrder n l h (child ∷ children) → child.0 ≤ l → RowsArePlaced n (child ∷ children)
+rows_placed : (n l h : ℕ) (child : ℕ × Subtree n) (children : List (ℕ × Subtree n)) → InOrder n l h (child ∷ children)
+    → child.0 ≤ l → RowsArePlaced n (child ∷ children)
 rows_placed n l h child [] chain least =
     let inside = rising_range l h (rows_in n child.1) (sound_rises n l h child.1 chain.0.1) in (
       every_weaker (RowIsIn l h) (λ row. child.0 ≤ row_key row) (λ row lies. let from = lies.0 in omega arith) (rows_in n child.1) inside,
@@ -92,16 +100,19 @@ rows_placed n l h child (next ∷ children) chain least =
       rows_placed n next.0 h next children chain.1 (omega arith),
     )
 
-lows_above : (n h k : ℕ) (child : ℕ × Subtree n) (children : List (ℕ × Subtree n)) → InOrder n child.0 h (child ∷ children) → k < child.0 → AllByRecursion (λ later. k < later.0) (child ∷ children)
+lows_above : (n h k : ℕ) (child : ℕ × Subtree n) (children : List (ℕ × Subtree n)) → InOrder n child.0 h (child ∷ children)
+    → k < child.0 → AllByRecursion (λ later. k < later.0) (child ∷ children)
 lows_above n h k child [] chain less = (less, tt)
 lows_above n h k child (next ∷ children) chain less = (less, lows_above n h k next children chain.1 (let more = chain.0.0 in omega arith))
 
-lows_rise : (n l h : ℕ) (child : ℕ × Subtree n) (children : List (ℕ × Subtree n)) → InOrder n l h (child ∷ children) → child.0 ≤ l → LowsRise (child ∷ children)
+lows_rise : (n l h : ℕ) (child : ℕ × Subtree n) (children : List (ℕ × Subtree n)) → InOrder n l h (child ∷ children) → child.0 ≤ l
+    → LowsRise (child ∷ children)
 lows_rise n l h child [] chain least = (tt, tt)
 lows_rise n l h child (next ∷ children) chain least =
     (lows_above n h child.0 next children chain.1 (let more = chain.0.0 in omega arith), lows_rise n next.0 h next children chain.1 (omega arith))
 
-separated : (n l h : ℕ) (children : List (ℕ × Subtree n)) → next_low (λ child. child.0) 0 children ≡ 0 → InOrder n l h children → AreSeparated n children
+separated : (n l h : ℕ) (children : List (ℕ × Subtree n)) → next_low (λ child. child.0) 0 children ≡ 0 → InOrder n l h children
+    → AreSeparated n children
 separated n l h [] first chain = record { first = refl; lows = tt; rows = tt }
 separated n l h (child ∷ children) first chain = record {
   first = first;
@@ -109,7 +120,8 @@ separated n l h (child ∷ children) first chain = record {
   rows = rows_placed n l h child children chain (let zero_low = first in omega arith);
 }
 
-each_node : (n : ℕ) → ((l h : ℕ) (node : Subtree n) → Sound n l h node → IsNode n node) → (l h : ℕ) (children : List (ℕ × Subtree n)) → InOrder n l h children
+each_node : (n : ℕ) → ((l h : ℕ) (node : Subtree n) → Sound n l h node → IsNode n node)
+    → (l h : ℕ) (children : List (ℕ × Subtree n)) → InOrder n l h children
     → AllByRecursion (λ child. IsNode n child.1) children
 each_node n node l h [] chain = tt
 each_node n node l h (child ∷ children) chain = (node l _ child.1 chain.0.1, each_node n node _ h children chain.1)

@@ -40,10 +40,12 @@ later_lows P low node gives [] some all = tt
 later_lows P low node gives ([] ∷ parts) some all = absurd (omega (arith, some.0))
 later_lows P low node gives ((x ∷ xs) ∷ parts) some all = (gives x all.0.0, later_lows P low node gives parts some.1 all.1)
 
-rows_under_keys : (n : ℕ) → ((node : Subtree n) → LowsAreKeysIn n node → PrefixesHold (rows_in n node)) → (children : List (ℕ × Subtree n)) → Under n children → PrefixesHold (rows_under n children)
+rows_under_keys : (n : ℕ) → ((node : Subtree n) → LowsAreKeysIn n node → PrefixesHold (rows_in n node))
+    → (children : List (ℕ × Subtree n)) → Under n children → PrefixesHold (rows_under n children)
 rows_under_keys n of_child [] under = tt
 rows_under_keys n of_child (child ∷ children) under =
-    every_append (λ row. IsPrefix row.prefix) (rows_in n child.1) (rows_under n children) (of_child child.1 under.0) (rows_under_keys n of_child children under.1)
+    every_append (λ row. IsPrefix row.prefix) (rows_in n child.1) (rows_under n children) (of_child child.1 under.0)
+    (rows_under_keys n of_child children under.1)
 
 -- Where lows are keys, each row goes by a prefix.
 pub prefixes_in : (n : ℕ) (node : Subtree n) → LowsAreKeysIn n node → PrefixesHold (rows_in n node)
@@ -63,11 +65,13 @@ leaves_fair low rows all =
         → Fair zero low (record { pieces = with_lows row_key (λ part. part) low parts; loose = [] })
     by [] some all = record { later = tt; each = λ own. tt; under = tt; loose = tt }
     by (part ∷ parts) some all =
-        let lows = later_lows (λ row. IsPrefix row.prefix) row_key (λ part. part) (λ row own. is_key (row_key row) row.prefix own refl) parts some.1 all.1 in
+        let lows =
+        later_lows (λ row. IsPrefix row.prefix) row_key (λ part. part) (λ row own. is_key (row_key row) row.prefix own refl) parts some.1 all.1 in
         record { later = lows; each = λ own. (own, lows); under = (all.0, leaves parts all.1); loose = tt }
 
 -- The node over children is fair, whatever the low of the first was.
-node_over_keys : (n : ℕ) (children : List (ℕ × Subtree n)) → EachLowIsKey (drop 1 children) → Under n children → LowsAreKeysIn (suc n) (node_over children)
+node_over_keys : (n : ℕ) (children : List (ℕ × Subtree n)) → EachLowIsKey (drop 1 children) → Under n children
+    → LowsAreKeysIn (suc n) (node_over children)
 node_over_keys n [] later under = (tt, tt)
 node_over_keys n (child ∷ children) later under = (later, (under.0, under.1))
 
@@ -87,7 +91,8 @@ nodes_fair n low children loose later under held =
     nodes [] each under = tt
     nodes (part ∷ parts) each under = (node_over_keys n part (all_later part each.0) under.0, nodes parts each.1 under.1)
 
-    by : (parts : List (List (ℕ × Subtree n))) → AllByRecursion HasSome parts → EachLowIsKey (drop 1 (flat_map (λ part. part) parts)) → AllByRecursion (Under n) parts
+    by : (parts : List (List (ℕ × Subtree n))) → AllByRecursion HasSome parts
+        → EachLowIsKey (drop 1 (flat_map (λ part. part) parts)) → AllByRecursion (Under n) parts
         → Fair (suc n) low (record { pieces = with_lows (λ child. child.0) node_over low parts; loose = loose })
     by [] some later under = record { later = tt; each = λ own. tt; under = tt; loose = held }
     by ([] ∷ parts) some later under = absurd (omega (arith, some.0))
@@ -114,7 +119,8 @@ leaf_fair low rows all = by (is_small LEAST_LEAF_ROWS rows)
 inner_fair : (n low first : ℕ) (left : Outcome n) → Fair n first left → Fair (suc n) low (inner_outcome n low left)
 inner_fair n low first left fair = by (is_small LEAST_CHILDREN left.pieces)
   where
-    by : (small : Bool) → Fair (suc n) low (cond small (record { pieces = []; loose = rows_under n left.pieces ++ left.loose }) (record { pieces = nodes_over low left.pieces; loose = left.loose }))
+    by : (small : Bool)
+        → Fair (suc n) low (cond small (record { pieces = []; loose = rows_under n left.pieces ++ left.loose }) (record { pieces = nodes_over low left.pieces; loose = left.loose }))
     by true = record {
       later = tt;
       each = λ own. tt;
@@ -137,9 +143,11 @@ joined_fair n low next left right key_next fair more = record {
     by (piece ∷ pieces) later = every_append (λ child. IsKey child.0) pieces right.pieces later (more.each key_next)
 
 abbrev FairPass : ℕ → Type 0
-FairPass n = (low : ℕ) (node : Subtree n) (edits : List Call) → LowsAreKeysIn n node → AllByRecursion SetsPrefix edits → Fair n low (pass n low node edits)
+FairPass n =
+    (low : ℕ) (node : Subtree n) (edits : List Call) → LowsAreKeysIn n node → AllByRecursion SetsPrefix edits → Fair n low (pass n low node edits)
 
-below_fair : (n : ℕ) → FairPass n → (children : List (ℕ × Subtree n)) (edits : List Call) → EachLowIsKey (drop 1 children) → Under n children → AllByRecursion SetsPrefix edits
+below_fair : (n : ℕ) → FairPass n → (children : List (ℕ × Subtree n)) (edits : List Call) → EachLowIsKey (drop 1 children)
+    → Under n children → AllByRecursion SetsPrefix edits
     → Fair n (first_low (λ child. child.0) children) (below n (pass n) children edits)
 below_fair n law [] edits later under sets = record { later = tt; each = λ own. tt; under = tt; loose = tt }
 below_fair n law (child ∷ []) edits later under sets = law child.0 child.1 edits under.0 sets
@@ -152,7 +160,8 @@ pass_fair : (n : ℕ) → FairPass n
 unfolding pass
 pass_fair zero low rows edits all sets = leaf_fair low (after_all rows edits) (prefixes_all rows edits all sets)
 pass_fair (suc n) low children edits all sets =
-    inner_fair n low (first_low (λ child. child.0) children) (below n (pass n) children edits) (below_fair n (pass_fair n) children edits all.0 all.1 sets)
+    inner_fair n low (first_low (λ child. child.0) children) (below n (pass n) children edits)
+    (below_fair n (pass_fair n) children edits all.0 all.1 sets)
 
 -- ---- the root
 
@@ -160,7 +169,8 @@ abbrev base_low : (n : ℕ) → Subtree n → ℕ
 base_low zero rows = 0
 base_low (suc n) children = first_low (λ child. child.0) children
 
-base_fair : (n : ℕ) (node : Subtree n) (edits : List Call) → LowsAreKeysIn n node → AllByRecursion SetsPrefix edits → Fair (base_level n) (base_low n node) (base_pass n node edits)
+base_fair : (n : ℕ) (node : Subtree n) (edits : List Call) → LowsAreKeysIn n node → AllByRecursion SetsPrefix edits
+    → Fair (base_level n) (base_low n node) (base_pass n node edits)
 base_fair zero rows edits all sets = leaves_fair 0 (after_all rows edits) (prefixes_all rows edits all sets)
 base_fair (suc n) children edits all sets = below_fair n (pass_fair n) children edits all.0 all.1 sets
 
@@ -171,7 +181,8 @@ top_in_keys levels n (piece ∷ []) later under = under.0
 top_in_keys zero n (piece ∷ next ∷ more) later under = node_over_keys n (piece ∷ next ∷ more) later under
 top_in_keys (suc levels) n (piece ∷ next ∷ more) later under =
     let nodes = nodes_fair n 0 (piece ∷ next ∷ more) [] later under tt in
-    by (nat_le (length (piece ∷ next ∷ more)) MOST_CHILDREN) _ (top_in_keys levels (suc n) (nodes_over 0 (piece ∷ next ∷ more)) nodes.later nodes.under)
+    by (nat_le (length (piece ∷ next ∷ more)) MOST_CHILDREN) _
+    (top_in_keys levels (suc n) (nodes_over 0 (piece ∷ next ∷ more)) nodes.later nodes.under)
   where
     by : (few : Bool) (higher : Tree) → LowsAreKeys higher → LowsAreKeys (cond few (suc n, node_over (piece ∷ next ∷ more)) higher)
     by true higher keys = node_over_keys n (piece ∷ next ∷ more) later under
@@ -188,8 +199,10 @@ batches_keep_lows tree calls keys sets =
     let edits = filter is_edit calls in
     let own = some_calls is_edit calls sets in
     let fair = base_fair tree.0 tree.1 edits keys own in
-    let orphans = prefixes_all [] (map set_of (base_pass tree.0 tree.1 edits).loose) tt (sets_prefixes (base_pass tree.0 tree.1 edits).loose fair.loose) in
-    passed_keys (passed_tree tree edits) (map set_of (orphans_of tree edits)) (passed_keys tree edits keys own) (sets_prefixes (orphans_of tree edits) orphans)
+    let orphans =
+    prefixes_all [] (map set_of (base_pass tree.0 tree.1 edits).loose) tt (sets_prefixes (base_pass tree.0 tree.1 edits).loose fair.loose) in
+    passed_keys (passed_tree tree edits) (map set_of (orphans_of tree edits)) (passed_keys tree edits keys own)
+    (sets_prefixes (orphans_of tree edits) orphans)
 
 calls_prefix : (entries : List Entry) → AllByRecursion (λ entry. SetsPrefix entry.call) entries → AllByRecursion SetsPrefix (calls_of entries)
 calls_prefix [] sets = tt
@@ -200,4 +213,5 @@ cuttings_keep_lows tree entries [] keys sets = keys
 cuttings_keep_lows tree entries (n ∷ lengths) keys sets =
     let both = every_split (λ entry. SetsPrefix entry.call) (take n entries) (drop n entries) (rw take-append-drop sets) in
     let batch = calls_of (take n entries) in
-    cuttings_keep_lows (batch_tree tree batch) (drop n entries) lengths (batches_keep_lows tree batch keys (calls_prefix (take n entries) both.0)) both.1
+    cuttings_keep_lows (batch_tree tree batch) (drop n entries) lengths
+    (batches_keep_lows tree batch keys (calls_prefix (take n entries) both.0)) both.1

@@ -25,7 +25,9 @@ put_permutes : (new : Row) (rows : List Row) → sum_by (has (row_key new)) rows
 put_permutes new [] none = IsPermutation-refl (new ∷ [])
 put_permutes new (row ∷ rows) none = by (rw sum_by-cons at none) (put_permutes new rows) (cases_order (row_key new) (row_key row))
   where
-    by : has (row_key new) row + sum_by (has (row_key new)) rows ≡ 0 → (sum_by (has (row_key new)) rows ≡ 0 → IsPermutation (new ∷ rows) (put new rows)) → (row_key new ≡ row_key row) ⊎ ((row_key new < row_key row) ⊎ (row_key row < row_key new))
+    by : has (row_key new) row + sum_by (has (row_key new)) rows ≡ 0
+        → (sum_by (has (row_key new)) rows ≡ 0 → IsPermutation (new ∷ rows) (put new rows))
+        → (row_key new ≡ row_key row) ⊎ ((row_key new < row_key row) ⊎ (row_key row < row_key new))
         → IsPermutation (new ∷ row ∷ rows) (put new (row ∷ rows))
     by total rest (inl same) = let one = has_key (row_key new) row (sym same) in absurd (omega arith)
     by total rest (inr (inl less)) = rw (put_before new row rows less) (IsPermutation-refl (new ∷ row ∷ rows))
@@ -35,18 +37,21 @@ put_permutes new (row ∷ rows) none = by (rw sum_by-cons at none) (put_permutes
         (IsPermutation-cons row (new ∷ rows) (put new rows) (rest (omega arith))))
 
 -- Rows put into a table, where all of them in rising order are another: that is what is left.
-puts_sorted : (rows back sorted : List Row) → IsTable rows → IsTable sorted → IsPermutation (rows ++ back) sorted → after_all rows (map set_of back) ≡ sorted
+puts_sorted : (rows back sorted : List Row) → IsTable rows → IsTable sorted → IsPermutation (rows ++ back) sorted
+    → after_all rows (map set_of back) ≡ sorted
 puts_sorted rows [] sorted a b same = same_tables rows sorted a b (rw append-nil at same)
 puts_sorted rows (row ∷ back) sorted a b same =
     let k = row_key row in
     let count : sum_by (has k) sorted ≡ sum_by (has k) (rows ++ row ∷ back) = sum_by-IsPermutation (has k) (rows ++ row ∷ back) sorted same in
-    let parts : sum_by (has k) (rows ++ row ∷ back) ≡ sum_by (has k) rows + (has k row + sum_by (has k) back) = sum_by-append (has k) rows (row ∷ back) ∙ ap (λ n. sum_by (has k) rows + n) (sum_by-cons (has k) row back) in
+    let parts : sum_by (has k) (rows ++ row ∷ back) ≡ sum_by (has k) rows + (has k row + sum_by (has k) back) =
+    sum_by-append (has k) rows (row ∷ back) ∙ ap (λ n. sum_by (has k) rows + n) (sum_by-cons (has k) row back) in
     let one : has k row ≡ 1 = has_key k row refl in
     let most : sum_by (has k) sorted ≤ 1 = one_each k sorted b in
     let new : sum_by (has k) rows ≡ 0 = omega arith in
     let moved : IsPermutation (put row rows ++ back) ((row ∷ rows) ++ back) =
     IsPermutation-append_left back (put row rows) (row ∷ rows) (IsPermutation-sym (row ∷ rows) (put row rows) (put_permutes row rows new)) in
-    let placed : IsPermutation (row ∷ (rows ++ back)) (rows ++ row ∷ back) = IsPermutation-sym (rows ++ row ∷ back) (row ∷ (rows ++ back)) (IsPermutation-middle rows row back) in
+    let placed : IsPermutation (row ∷ (rows ++ back)) (rows ++ row ∷ back) =
+    IsPermutation-sym (rows ++ row ∷ back) (row ∷ (rows ++ back)) (IsPermutation-middle rows row back) in
     puts_sorted (put row rows) back sorted (calls_keep_tables rows (set_of row) a) b
     (IsPermutation-trans (put row rows ++ back) (row ∷ (rows ++ back)) sorted moved (IsPermutation-trans (row ∷ (rows ++ back)) (rows ++ row ∷ back) sorted placed same))
 
@@ -56,7 +61,9 @@ sorted_rows_are_the_table rows sorted table same = puts_sorted [] rows sorted tt
 pub any_sort_makes_the_orphans : AnySortMakesTheOrphans
 any_sort_makes_the_orphans tree edits sorted lawful same up =
     let loose = (base_pass tree.0 tree.1 edits).loose in
-    puts_sorted [] loose sorted tt (distinct_is_table sorted up (λ k. once k (sum_by-IsPermutation (has k) loose sorted same) (loose_once tree edits lawful k))) same
+    puts_sorted [] loose sorted tt
+    (distinct_is_table sorted up (λ k. once k (sum_by-IsPermutation (has k) loose sorted same) (loose_once tree edits lawful k))) same
   where
-    once : (k : ℕ) → sum_by (has k) sorted ≡ sum_by (has k) (base_pass tree.0 tree.1 edits).loose → sum_by (has k) (base_pass tree.0 tree.1 edits).loose ≤ 1 → sum_by (has k) sorted ≤ 1
+    once : (k : ℕ) → sum_by (has k) sorted ≡ sum_by (has k) (base_pass tree.0 tree.1 edits).loose
+        → sum_by (has k) (base_pass tree.0 tree.1 edits).loose ≤ 1 → sum_by (has k) sorted ≤ 1
     once k count most = omega arith

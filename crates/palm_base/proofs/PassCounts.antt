@@ -46,16 +46,21 @@ module _ (f : Row → ℕ) where
       by true = rw (sum_by-append f (rows_under n left.pieces) left.loose) (omega arith)
       by false =
           let same : sum_by f (rows_under (suc n) (nodes_over low left.pieces)) ≡ sum_by f (rows_under n left.pieces) =
-          ap (sum_by f) (rows_of_nodes n low (cut MOST_CHILDREN left.pieces) ∙ ap (rows_under n) (pieces_join MOST_CHILDREN left.pieces (omega arith))) in
+          ap (sum_by f)
+          (rows_of_nodes n low (cut MOST_CHILDREN left.pieces) ∙ ap (rows_under n) (pieces_join MOST_CHILDREN left.pieces (omega arith))) in
           omega arith
 
-  joined_keeps : (n : ℕ) (table more : List Row) (left right : Outcome n) → Keeps n table left → Keeps n more right → Keeps n (table ++ more) (joined left right)
+  joined_keeps : (n : ℕ) (table more : List Row) (left right : Outcome n) → Keeps n table left → Keeps n more right
+      → Keeps n (table ++ more) (joined left right)
   joined_keeps n table more left right keeps also =
-      rw (rows_join n left.pieces right.pieces, sum_by-append f (rows_under n left.pieces) (rows_under n right.pieces), sum_by-append f left.loose right.loose, sum_by-append f table more)
-      (omega arith)
+      let kept = sum_by-append f (rows_under n left.pieces) (rows_under n right.pieces) in
+      let gone = sum_by-append f left.loose right.loose in
+      let all = sum_by-append f table more in
+      rw (rows_join n left.pieces right.pieces, kept, gone, all) (omega arith)
 
   abbrev PassKeeps : ℕ → Type 0
-  PassKeeps n = (l h low : ℕ) (node : Subtree n) (edits : List Call) → Sound n l h node → Keeps n (after_all (rows_in n node) edits) (pass n low node edits)
+  PassKeeps n =
+      (l h low : ℕ) (node : Subtree n) (edits : List Call) → Sound n l h node → Keeps n (after_all (rows_in n node) edits) (pass n low node edits)
 
   below_keeps : (n : ℕ) → PassKeeps n → (l h : ℕ) (children : List (ℕ × Subtree n)) (edits : List Call) → InOrder n l h children → 0 < length children
       → Keeps n (after_all (rows_under n children) edits) (below n (pass n) children edits)
@@ -81,7 +86,8 @@ module _ (f : Row → ℕ) where
       (below_keeps n (pass_keeps n) l h children edits sound.2 (let sizes = sound.0 in omega arith))
 
   -- So does a pass of what is under a root.
-  pub base_keeps : (n h : ℕ) (node : Subtree n) (edits : List Call) → Root n h node → Keeps (base_level n) (after_all (rows_in n node) edits) (base_pass n node edits)
+  pub base_keeps : (n h : ℕ) (node : Subtree n) (edits : List Call) → Root n h node
+      → Keeps (base_level n) (after_all (rows_in n node) edits) (base_pass n node edits)
   base_keeps zero h rows edits root = leaves_keep 0 (after_all rows edits)
   base_keeps (suc n) h children edits root = below_keeps n (pass_keeps n) 0 h children edits root.2 (let sizes = root.0 in omega arith)
 

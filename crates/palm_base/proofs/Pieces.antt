@@ -11,7 +11,8 @@ every_split P [] ys all = (tt, all)
 every_split P (x ∷ xs) ys all = let rest = every_split P xs ys all.1 in ((all.0, rest.0), rest.1)
 
 -- What holds of each item holds of each item of each piece.
-pub every_part : {X : Type 0} (P : X → Type 0) (parts : List (List X)) → AllByRecursion P (flat_map (λ part. part) parts) → AllByRecursion (AllByRecursion P) parts
+pub every_part : {X : Type 0} (P : X → Type 0) (parts : List (List X)) → AllByRecursion P (flat_map (λ part. part) parts)
+    → AllByRecursion (AllByRecursion P) parts
 every_part P [] all = tt
 every_part P (part ∷ parts) all = let both = every_split P part (flat_map (λ part. part) parts) all in (both.0, every_part P parts both.1)
 
@@ -25,5 +26,6 @@ pieces_have_some half (x ∷ items) some = by (cases_lt (half + half) (length (x
   where
     by : (half + half < length (x ∷ items)) ⊎ (length (x ∷ items) ≤ half + half) → AllByRecursion HasSome (cut (half + half) (x ∷ items))
     by (inl many) =
-        every_at HasSome (cut (half + half) (x ∷ items)) (λ i piece at. let wide = pieces_are_wide half (x ∷ items) piece i some many at in omega arith)
+        every_at HasSome (cut (half + half) (x ∷ items))
+        (λ i piece at. let wide = pieces_are_wide half (x ∷ items) piece i some many at in omega arith)
     by (inr few) = rw (few_are_one_piece (half + half) (x ∷ items) (omega arith) few) (omega arith, tt)

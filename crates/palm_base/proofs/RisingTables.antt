@@ -13,7 +13,8 @@ rising_is_table l h [] rise = tt
 rising_is_table l h (row ∷ rows) rise =
     let rest = rising_rest l h row rows rise in
     let above : Below (row_key row) rows =
-    every_weaker (RowIsIn (suc (row_key row)) h) (λ later. row_key row < row_key later) (λ later inside. let least = inside.0 in omega arith) rows (rising_range (suc (row_key row)) h rows rest) in
+    every_weaker (RowIsIn (suc (row_key row)) h) (λ later. row_key row < row_key later)
+    (λ later inside. let least = inside.0 in omega arith) rows (rising_range (suc (row_key row)) h rows rest) in
     (above, rising_is_table (suc (row_key row)) h rows rest)
 
 -- A key above those of all rows.

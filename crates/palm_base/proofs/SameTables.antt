@@ -27,7 +27,8 @@ below_in k row (x ∷ xs) below (inl same) = rw same below.0
 below_in k row (x ∷ xs) below (inr inside) = below_in k row xs below.1 inside
 
 -- Rows above the first's key are among the others.
-among_others : (x : Row) (xs rows : List Row) → Below (row_key x) rows → AllByRecursion (λ row. In row (x ∷ xs)) rows → AllByRecursion (λ row. In row xs) rows
+among_others : (x : Row) (xs rows : List Row) → Below (row_key x) rows → AllByRecursion (λ row. In row (x ∷ xs)) rows
+    → AllByRecursion (λ row. In row xs) rows
 among_others x xs [] below all = tt
 among_others x xs (row ∷ rows) below all = (by all.0, among_others x xs rows below.1 all.1)
   where

@@ -77,7 +77,8 @@ pub record AreSeparated (n : ℕ) (children : List (ℕ × Subtree n)) : Type 0 
 -- leaf isn't.
 abbrev pub IsNode : (n : ℕ) → Subtree n → Type 0
 IsNode zero rows = HasFromTo LEAST_LEAF_ROWS MOST_LEAF_ROWS rows
-IsNode (suc n) children = HasFromTo LEAST_CHILDREN MOST_CHILDREN children × AreSeparated n children × AllByRecursion (λ child. IsNode n child.1) children
+IsNode (suc n) children =
+    HasFromTo LEAST_CHILDREN MOST_CHILDREN children × AreSeparated n children × AllByRecursion (λ child. IsNode n child.1) children
 
 -- A root, and all under it, is filled and separated. So the empty leaf is one, and an inner node of one child isn't.
 abbrev pub IsRoot : (n : ℕ) → Subtree n → Type 0
