@@ -53,7 +53,7 @@ sized (suc count) (suc more) size (suc i) items piece few all at =
 enough : (width t : ℕ) → 0 < width → t ≤ piece_count width t * width
 enough width t some = omega arith
 
-needed : (width t : ℕ) → 0 < width → piece_count width t * width < t + width
+pub needed : (width t : ℕ) → 0 < width → piece_count width t * width < t + width
 needed width t some = omega arith
 
 no_pieces : (width count : ℕ) → count * width < width → count ≡ 0

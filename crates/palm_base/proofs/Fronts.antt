@@ -71,7 +71,7 @@ front-key n ds p some h =
     rw (upper-groups n ds p some h, whole, mod-eq_of_lt fits, len) refl
 
 -- A list begins another exactly where it is the other's first elements.
-begins-take : (ps ds : List ℕ) → Decides (begins ps ds) (ps ≡ take (length ps) ds)
+pub begins-take : (ps ds : List ℕ) → Decides (begins ps ds) (ps ≡ take (length ps) ds)
 begins-take [] ds = (λ _. refl, λ _. refl)
 begins-take (d ∷ ps) [] = (λ e. absurd (false≢true e), λ e. cc)
 begins-take (d ∷ ps) (e ∷ ds) = Decides-like (d == e && begins ps ds) (λ h. joined h.0 h.1) (λ h. (cc, cc)) (Decides-and (d == e) (begins ps ds) (Decides-eqb d e) (begins-take ps ds))

@@ -1,12 +1,18 @@
--- Tables: the three cases of putting a row in, and that each call leaves a table.
-use Rattle.std.proofs.Common.{◌≡◌, ℕ, ◌<◌, ◌≤◌, Bool, true, false, cond, not, ◌==◌, List, [], ◌∷◌, filter, refl, arith, ◌⊎◌, inl, inr}
+-- Tables: the three cases of putting a row in, that each call leaves a table, and calls one after another.
+use Rattle.std.proofs.Common.{◌≡◌, ℕ, ◌<◌, ◌≤◌, Bool, true, false, cond, not, ◌==◌, List, [], ◌∷◌, ◌++◌, filter, refl, arith, ◌⊎◌, inl, inr}
 use Rattle.std.specs.List.{AllByRecursion}
 use Rattle.std.proofs.lemmas.Bool.{cases_order, lt-ltb, le-ltb, eq-eqb, ne_eqb}
 use Rattle.palm_base.specs.Key.{key}
-use Rattle.palm_base.specs.Table.{row_key, put, IsTable}
+use Rattle.palm_base.specs.Table.{row_key, put, after, after_all, IsTable}
 use Rattle.palm_base.specs.Laws.{CallsKeepTables}
+use Rattle.palm_base.proofs.Every.{every_weaker, every_filter}
 use Rattle.palm_base.specs.declared.row.Row.{Row}
+use Rattle.palm_base.specs.declared.call.Call.{Call}
 use Rattle.palm_base.specs.declared.call.Call.TheVariants.{Set, Del, Get, Rate, List as Listing}
+
+-- One row's key is another's, or lies below it, or above it.
+abbrev pub Order : Row → Row → Type 0
+Order one other = (row_key one ≡ row_key other) ⊎ ((row_key one < row_key other) ⊎ (row_key other < row_key one))
 
 -- The key lies below those of all rows.
 abbrev pub Below : ℕ → List Row → Type 0
@@ -22,34 +28,29 @@ pub put_past : (new row : Row) (rows : List Row) → row_key row < row_key new �
 put_past new row rows h = rw (le-ltb (row_key new) (row_key row) (omega arith), ne_eqb (row_key new) (row_key row) (λ e. omega arith)) refl
 
 pub below_all : (j k : ℕ) (rows : List Row) → j ≤ k → Below k rows → Below j rows
-below_all j k [] h all = tt
-below_all j k (row ∷ rows) h all = (omega (arith, all.0), below_all j k rows h all.1)
+below_all j k rows h = every_weaker (λ later. k < row_key later) (λ later. j < row_key later) (λ row below. omega arith) rows
 
-below_put : (k : ℕ) (new : Row) (rows : List Row) → k < row_key new → Below k rows → Below k (put new rows)
-below_put k new [] h all = (h, tt)
-below_put k new (row ∷ rows) h all = by (below_put k new rows h all.1) (cases_order (row_key new) (row_key row))
+-- What the row that is put in has, and all others have, all have after.
+pub every_put : (P : Row → Type 0) (new : Row) (rows : List Row) → P new → AllByRecursion P rows → AllByRecursion P (put new rows)
+every_put P new [] one all = (one, tt)
+every_put P new (row ∷ rows) one all = by (every_put P new rows one all.1) (cases_order (row_key new) (row_key row))
   where
-    by : Below k (put new rows) → (row_key new ≡ row_key row) ⊎ ((row_key new < row_key row) ⊎ (row_key row < row_key new)) → Below k (put new (row ∷ rows))
-    by rest (inl e) = rw (put_at new row rows e) (h, all.1)
-    by rest (inr (inl l)) = rw (put_before new row rows l) (h, all)
+    by : AllByRecursion P (put new rows) → Order new row → AllByRecursion P (put new (row ∷ rows))
+    by rest (inl e) = rw (put_at new row rows e) (one, all.1)
+    by rest (inr (inl l)) = rw (put_before new row rows l) (one, all)
     by rest (inr (inr g)) = rw (put_past new row rows g) (all.0, rest)
 
 put_keeps : (new : Row) (rows : List Row) → IsTable rows → IsTable (put new rows)
 put_keeps new [] table = (tt, tt)
 put_keeps new (row ∷ rows) table = by (put_keeps new rows table.1) (cases_order (row_key new) (row_key row))
   where
-    by : IsTable (put new rows) → (row_key new ≡ row_key row) ⊎ ((row_key new < row_key row) ⊎ (row_key row < row_key new)) → IsTable (put new (row ∷ rows))
+    by : IsTable (put new rows) → Order new row → IsTable (put new (row ∷ rows))
     by rest (inl e) = rw (put_at new row rows e) (below_all (row_key new) (row_key row) rows (omega arith) table.0, table.1)
     by rest (inr (inl l)) = rw (put_before new row rows l) ((l, below_all (row_key new) (row_key row) rows (omega arith) table.0), table)
-    by rest (inr (inr g)) = rw (put_past new row rows g) (below_put (row_key row) new rows g table.0, rest)
+    by rest (inr (inr g)) = rw (put_past new row rows g) (every_put (λ later. row_key row < row_key later) new rows g table.0, rest)
 
 below_filter : (k : ℕ) (p : Row → Bool) (rows : List Row) → Below k rows → Below k (filter p rows)
-below_filter k p [] all = tt
-below_filter k p (row ∷ rows) all = by (p row) (below_filter k p rows all.1)
-  where
-    by : (b : Bool) → Below k (filter p rows) → Below k (cond b (row ∷ filter p rows) (filter p rows))
-    by true rest = (all.0, rest)
-    by false rest = rest
+below_filter k p rows = every_filter (λ later. k < row_key later) (λ later. k < row_key later) p (λ later below passes. below) rows
 
 filter_keeps : (p : Row → Bool) (rows : List Row) → IsTable rows → IsTable (filter p rows)
 filter_keeps p [] table = tt
@@ -65,3 +66,7 @@ calls_keep_tables rows (Del prefix) table = filter_keeps (λ row. not (row_key r
 calls_keep_tables rows (Get prefix) table = table
 calls_keep_tables rows (Rate number) table = table
 calls_keep_tables rows (Listing from to limit) table = table
+
+pub after_all_append : (rows : List Row) (calls more : List Call) → after_all rows (calls ++ more) ≡ after_all (after_all rows calls) more
+after_all_append rows [] more = refl
+after_all_append rows (call ∷ calls) more = after_all_append (after rows call) calls more

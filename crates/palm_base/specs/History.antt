@@ -1,11 +1,15 @@
 -- Histories: calls in the order of their arrival, each with its caller and its place among the caller's calls.
-use Rattle.std.specs.Prelude.{◌≡◌, ℕ, ◌+◌, ◌==◌, ◌<◌, List, [], ◌∷◌, length, take, drop, sum, filter, All, slice_index, slice_index_or}
+use Rattle.std.specs.Prelude.{◌≡◌, ℕ, ◌+◌, ◌==◌, ◌<◌, List, [], ◌∷◌, length, map, take, drop, sum, filter, All, slice_index, slice_index_or}
 use Rattle.std.specs.List.{AllByRecursion}
 use Rattle.palm_base.specs.Table.{answer, after, IsPlain}
 use Rattle.palm_base.specs.declared.row.Row.{Row}
 use Rattle.palm_base.specs.declared.call.Call.{Call}
 use Rattle.palm_base.specs.declared.call.Reply.{Reply}
 use Rattle.palm_base.specs.declared.call.Entry.{Entry}
+
+-- The calls of a history, in order. So those of (3, 7, x), (2, 0, y) are x, y.
+abbrev pub calls_of : List Entry → List Call
+calls_of entries = map (λ entry. entry.call) entries
 
 -- The table that a history leaves.
 abbrev pub table_after : List Row → List Entry → List Row

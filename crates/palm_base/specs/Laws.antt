@@ -5,8 +5,8 @@ use Rattle.std.specs.List.{flat_map}
 use Rattle.palm_base.specs.Prefix.{IsPrefix, comes_before}
 use Rattle.palm_base.specs.Key.{key}
 use Rattle.palm_base.specs.Cut.{piece_count, piece_size, cut}
-use Rattle.palm_base.specs.Table.{IsTable, answer, after}
-use Rattle.palm_base.specs.History.{table_at, replies_to}
+use Rattle.palm_base.specs.Table.{IsTable, answer, after, after_all}
+use Rattle.palm_base.specs.History.{calls_of, table_after, table_at, replies_to}
 use Rattle.palm_base.specs.declared.row.Row.{Row}
 use Rattle.palm_base.specs.declared.call.Call.{Call}
 use Rattle.palm_base.specs.declared.call.Entry.{Entry}
@@ -22,6 +22,10 @@ KeysAreDistinct = (p q : List ℕ) → IsPrefix p → IsPrefix q → key p ≡ k
 -- Each call leaves a table.
 abbrev pub CallsKeepTables : Type 0
 CallsKeepTables = (rows : List Row) (call : Call) → IsTable rows → IsTable (after rows call)
+
+-- A history leaves what its calls leave, whoever the callers are.
+abbrev pub HistoriesGoByCalls : Type 0
+HistoriesGoByCalls = (rows : List Row) (entries : List Entry) → table_after rows entries ≡ after_all rows (calls_of entries)
 
 -- The reply at each place of a history is the answer to the call there, on the table at that place.
 -- So the third reply to Set 44 5, Get 44, Del 44 is Gone 5: the answer to Del 44 on the table that the first two leave.

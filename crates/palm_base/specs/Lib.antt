@@ -1,7 +1,16 @@
 pub mod Cut
+pub mod Fronts
+pub mod FurtherLaws
 pub mod History
 pub mod Key
+pub mod Lawful
 pub mod Laws
+pub mod Literal
+pub mod Lows
+pub mod Pass
 pub mod Prefix
+pub mod Shape
 pub mod Table
+pub mod Text
 pub mod Tree
+pub mod TreeLaws

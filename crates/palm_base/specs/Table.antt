@@ -75,6 +75,11 @@ after rows (Get prefix) = rows
 after rows (Rate number) = rows
 after rows (Listing from to limit) = rows
 
+-- What calls leave of a table, one after another. So Set 44 5, Del 44 leave of the empty table no row.
+abbrev pub after_all : List Row → List Call → List Row
+after_all rows [] = rows
+after_all rows (call ∷ calls) = after_all (after rows call) calls
+
 -- A Set, a Del or a Get.
 abbrev pub IsPlain : Call → Type 0
 IsPlain (Set prefix rate) = Unit {0}

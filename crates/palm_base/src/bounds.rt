@@ -11,3 +11,7 @@ pub const LEAST_CHILDREN: usize = 8;
 
 /// The greatest number of children of an inner node.
 pub const MOST_CHILDREN: usize = 2 * LEAST_CHILDREN;
+
+/// The greatest number of levels that a table's tree has. A tree of one level more would have more rows than there are
+/// prefixes.
+pub const MOST_LEVELS: usize = 17;

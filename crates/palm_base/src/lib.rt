@@ -11,9 +11,10 @@ mod row;
 mod steps;
 #[cfg(test)]
 mod tests;
+pub mod tree_laws;
 
 pub use amount::{Amount, Limit, MOST_LIMIT, MOST_RATE};
-pub use bounds::{LEAST_CHILDREN, LEAST_LEAF_ROWS, MOST_CHILDREN, MOST_LEAF_ROWS};
+pub use bounds::{LEAST_CHILDREN, LEAST_LEAF_ROWS, MOST_CHILDREN, MOST_LEAF_ROWS, MOST_LEVELS};
 pub use call::{Call, Entry, Reply};
 pub use digits::{Digits, DigitsFault, MOST_DIGITS};
 pub use memory::NoMemory;

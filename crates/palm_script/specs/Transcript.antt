@@ -1,30 +1,15 @@
 -- Runs of a script, and the lines of their transcript.
-use Rattle.std.specs.Prelude.{ℕ, ◌+◌, ◌/◌, ◌%◌, ◌==◌, take, drop, replicate, if◌then◌else◌, List, [], ◌∷◌, ◌++◌, length, map, codes}
+use Rattle.std.specs.Prelude.{ℕ, ◌+◌, ◌/◌, ◌%◌, ◌==◌, take, drop, replicate, if◌then◌else◌, List, [], ◌∷◌, ◌++◌, length, codes}
 use Rattle.std.specs.List.{flat_map}
 use Rattle.std.specs.Fmt.{decimal}
 use Rattle.palm_base.specs.History.{replies_to, table_after}
+use Rattle.palm_base.specs.Text.{row_text, rows_text}
 use Rattle.palm_base.specs.declared.row.Row.{Row}
 use Rattle.palm_base.specs.declared.call.Entry.{Entry}
 use Rattle.palm_base.specs.declared.call.Reply.{Reply}
 use Rattle.palm_base.specs.declared.call.Reply.TheVariants.{New, Was, Gone, Absent, Value, Hit, Rows}
 use Rattle.palm_script.specs.Script.{entries_from}
 use Rattle.palm_script.specs.declared.line.Line.{Line}
-
--- The text of a prefix: its digits.
-abbrev pub digits_text : List ℕ → List ℕ
-digits_text digits = map (λ d. d + 48) digits
-
--- A row: its prefix, a blank and its rate.
-abbrev pub row_text : Row → List ℕ
-row_text row = digits_text row.prefix ++ (codes " " ++ decimal row.rate)
-
--- A row of a list, after a blank.
-abbrev pub listed_row_text : Row → List ℕ
-listed_row_text row = codes " " ++ row_text row
-
--- How many rows there are, and each of them.
-abbrev pub rows_text : List Row → List ℕ
-rows_text rows = decimal (length rows) ++ flat_map listed_row_text rows
 
 -- What a call was answered, as its line says it. So Value 5 is "value 5".
 abbrev pub answer_text : Reply → List ℕ

@@ -1,7 +1,8 @@
 ghost use Rattle.std.specs.Prelude.{◌≡◌, ◌++◌, codes, OnOk, OnErr};
 ghost use Rattle.std.specs.Fmt.{decimal};
 ghost use Rattle.palm_script.specs.Printing.{Extends};
-ghost use Rattle.palm_script.specs.Transcript.{digits_text, row_text, listed_row_text, rows_text, answer_text, reply_line, batch_line, end_line};
+ghost use Rattle.palm_base.specs.Text.{digits_text, row_text, listed_row_text, rows_text};
+ghost use Rattle.palm_script.specs.Transcript.{answer_text, reply_line, batch_line, end_line};
 
 use itoa::Buffer;
 use palm_base::{Amount, Digits, NoMemory, Reply, Row, RowList};

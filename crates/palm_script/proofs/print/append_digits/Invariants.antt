@@ -1,5 +1,5 @@
 use Rattle.std.proofs.Common.{◌≡◌, ◌++◌, take}
-use Rattle.palm_script.specs.Transcript.{digits_text}
+use Rattle.palm_base.specs.Text.{digits_text}
 use Rattle.palm_script.proofs.print.append_digits.Given as goal
 
 -- the digits so far stand after what was there

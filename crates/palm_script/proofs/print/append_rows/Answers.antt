@@ -1,4 +1,4 @@
-use Rattle.palm_script.specs.Transcript.{listed_row_text}
+use Rattle.palm_base.specs.Text.{listed_row_text}
 use Rattle.palm_script.proofs.Appended.{extends_more, flat_map_next}
 use Rattle.palm_script.proofs.print.append_rows.Goals as goal
 
