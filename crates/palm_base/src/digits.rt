@@ -166,6 +166,7 @@ impl Digits {
         ensures len { result ≡ length self.now }
         ensures least { 1 ≤ result }
         ensures most { result ≤ MOST_DIGITS }
+        ensures prefix { IsPrefix self.now }
     {
         (self.word % 16) as u32
     }
