@@ -1,0 +1,6 @@
+pub mod Places
+pub mod Marks
+pub mod Undoing
+pub mod Keeping
+pub mod Putting
+pub mod Seeing

@@ -1,0 +1,4 @@
+pub mod ArenaState
+pub mod Journal
+pub mod LeaseState
+pub mod LendsNode

@@ -1,0 +1,14 @@
+//! Where the tree's nodes stand: an arena that lends them while a batch changes the tree, and takes back what an abandoned
+//! batch did.
+#![tactic(auto)]
+
+mod arena;
+mod journal;
+mod lease;
+mod place;
+mod shape;
+
+pub use arena::Arena;
+pub use lease::Lease;
+pub use place::Place;
+pub use shape::Shape;
