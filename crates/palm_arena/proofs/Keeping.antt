@@ -20,7 +20,7 @@ use Rattle.palm_arena.proofs.Marks.{marked_within, marked_same, marked_more, mar
 use Rattle.palm_arena.proofs.Undoing.{undo-saving, undo-appending, undo-set, undo-beside, undo-none}
 
 -- Ids of one place are the same.
-same_id : (id other : NodeId) → id.place ≡ other.place → id ≡ other
+pub same_id : (id other : NodeId) → id.place ≡ other.place → id ≡ other
 same_id id other same = ap (λ (place : ℕ). let n : NodeId = record { place = place } in n) same
 
 pub dec_marked : (marks : List Bool) (i : ℕ) → IsMarked marks i ⊎ (¬ IsMarked marks i)

@@ -4,3 +4,4 @@ pub mod Undoing
 pub mod Keeping
 pub mod Putting
 pub mod Seeing
+pub mod Standing

@@ -3,7 +3,7 @@
 // A batch begins, lends nodes to change them, takes new ones and drops others, and then commits or rolls back. A lent node
 // moves out into its lease, and a copy of it stays in the journal until the batch ends. Ids that a batch dropped are used
 // again from the next batch on, and never within it, so that what stood there can be put back.
-ghost use Rattle.std.specs.Prelude.{◌≡◌, ◌+◌, ◌++◌, ◌∷◌, [], length, ◌<◌, Some, None, IsSome, IfOk, OnOk, OnErr};
+ghost use Rattle.std.specs.Prelude.{◌≡◌, ◌+◌, ◌++◌, ◌∷◌, [], length, ◌<◌, Some, None, IsSome, is_some, IfOk, OnOk, OnErr};
 ghost use Rattle.palm_arena.specs.ArenaState.{ArenaState, node_at, with_place, undone, IsHeld, IsLent, IsVacant, IsVacantAtBegin, NoneLent, IsStill};
 ghost use Rattle.palm_arena.specs.Journal.{IsMarked, Puts};
 
@@ -107,6 +107,13 @@ impl Arena {
             begun: None,
             moved: Vec::new(alloc),
         })
+    }
+
+    /// Whether a node stands at an id, so that it can be read, lent and dropped.
+    pub fn is_held(&self, id: NodeId) -> bool
+        ensures { result ≡ is_some (node_at self.now.places id) }
+    {
+        matches!(self.places.get(id.place), Some(Place::Holds(_)))
     }
 
     /// The node of an id.

@@ -4,6 +4,7 @@
 
 mod arena;
 mod journal;
+pub mod laws;
 mod lease;
 mod place;
 mod shape;
