@@ -8,6 +8,8 @@ pub mod laws;
 mod lease;
 mod place;
 mod shape;
+#[cfg(test)]
+mod tests;
 
 pub use arena::Arena;
 pub use lease::Lease;
