@@ -193,14 +193,6 @@ stays count base journal places moved id keeps live unmoved =
       ap node_in (before_untouched count base journal places moved id free keeps ∙ get_or-take count places id.place Empty old),
     )
 
--- What a batch keeps is what ends it.
-pub covering : (count : ℕ) (base : List Place) (journal : Journal) (places : List Place) (moved : List NodeId) → Keeps count base journal places moved → Covers (length places) journal
-covering count base journal places moved keeps = record {
-  marks = keeps.marks;
-  below = λ j saved. let b = marked_within journal.touched.items j (keeps.marked j saved) in omega (arith, keeps.marks);
-  saved = keeps.saved;
-}
-
 -- A step that keeps every batch keeps the one under way, and what it began with.
 pub onward : (begun : Option ℕ) (before after : Journal) (old new : List Place) (moved listed : List NodeId)
     → IsSome (begun_with begun before old) → ((count : ℕ) (base : List Place) → Keeps count base before old moved → Keeps count base after new listed)

@@ -26,7 +26,7 @@ pub none_lent_after_return : NoneLentAfterReturn
 none_lent_after_return places id node home other lent =
     let lending = with_place places id Lent in
     dite (ℕ_discrete other.place id.place)
-        (λ same.
-            let e : Holds node ≡ Lent = sym (put_stands lending id (Holds node)) ∙ ap (λ (k : NodeId). place_at (with_place lending id (Holds node)) k) (sym (same_id other id same)) ∙ lent in
-            cc)
-        (λ apart. home other (sym (beside_set_place places id.place other.place Lent apart) ∙ sym (beside_set_place lending id.place other.place (Holds node) apart) ∙ lent))
+    (λ same.
+    let e : Holds node ≡ Lent = sym (put_stands lending id (Holds node)) ∙ ap (λ (k : NodeId). place_at (with_place lending id (Holds node)) k) (sym (same_id other id same)) ∙ lent in
+    cc)
+    (λ apart. home other (sym (beside_set_place places id.place other.place Lent apart) ∙ sym (beside_set_place lending id.place other.place (Holds node) apart) ∙ lent))

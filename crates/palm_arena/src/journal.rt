@@ -103,10 +103,7 @@ impl Journal {
         let Some(Place::Empty) = places.get(id.place) else {
             return None;
         };
-        if self.touched[id.place] {
-            return None;
-        }
-        Some(id)
+        (!self.touched[id.place]).then_some(id)
     }
 
     /// Ends a batch whose changes stay: nothing is saved any more, and places that it emptied are free. It takes no memory,

@@ -15,8 +15,8 @@ give_back-requires g c =
 pub returns-clause-none_lent : goal.returns-clause-none_lent
 returns-clause-none_lent g c =
     let places : c.give_back.new.self.places ≡ with_place (with_place c.args.arena.now.places c.args.id Lent) c.args.id (Holds c.args.node) =
-        ap (λ (w : ArenaState). w.places) c.give_back.ensures
-        ∙ ap (λ (w : ArenaState). with_place w.places c.in_ok-lease.lease.id (Holds c.args.node)) c.in_ok-lease.ensures.ok
-        ∙ ap (λ (k : NodeId). with_place (with_place c.args.arena.now.places c.args.id Lent) k (Holds c.args.node)) c.in_ok-lease.ensures.lease.0
+    ap (λ (w : ArenaState). w.places) c.give_back.ensures
+    ∙ ap (λ (w : ArenaState). with_place w.places c.in_ok-lease.lease.id (Holds c.args.node)) c.in_ok-lease.ensures.ok
+    ∙ ap (λ (k : NodeId). with_place (with_place c.args.arena.now.places c.args.id Lent) k (Holds c.args.node)) c.in_ok-lease.ensures.lease.0
     in
     subst (λ (l : List Place). NoneLent l) (sym places) (none_lent_after_return c.args.arena.now.places c.args.id c.args.node c.requires.none_lent)

@@ -12,7 +12,7 @@ invariant_of-self-2 c =
     let held = ap (λ (w : ArenaState). is_some (node_at w.places c.args.id)) c.self.view_is ∙ c.requires.held in
     let within = held_within c.self.inside.places.items c.args.id held in
     let saves = rw c.deref.ensures.value at c.in_ok-save.ensures.ok in
-    (placed c.self.inside.begun _ _ c.self.inside.places.items c.self.inside.moved.items _ c.args.id Empty some within saves (inl refl) (unlisted c.self.inside.moved.items c.args.id) c.self.invariant).0
+    (placed c.self.inside _ _ c.args.id Empty some within saves (inl refl) (unlisted c.self.inside.moved.items c.args.id) c.self.invariant).0
 
 pub returns-clause-ok : goal.returns-clause-ok
 returns-clause-ok c =
@@ -20,6 +20,6 @@ returns-clause-ok c =
     let held = ap (λ (w : ArenaState). is_some (node_at w.places c.args.id)) c.self.view_is ∙ c.requires.held in
     let within = held_within c.self.inside.places.items c.args.id held in
     let saves = rw c.deref.ensures.value at c.in_ok-save.ensures.ok in
-    let same = (placed c.self.inside.begun _ _ c.self.inside.places.items c.self.inside.moved.items _ c.args.id Empty some within saves (inl refl) (unlisted c.self.inside.moved.items c.args.id) c.self.invariant).1 in
-    seen _ _ _ _ _ _ (set_place-within c.self.inside.places.items c.args.id.place Empty within) same refl
+    let goes = placed c.self.inside _ _ c.args.id Empty some within saves (inl refl) (unlisted c.self.inside.moved.items c.args.id) c.self.invariant in
+    seen _ _ _ _ _ _ (set_place-within c.self.inside.places.items c.args.id.place Empty within) goes.1 refl
     ∙ ap (λ (w : ArenaState). record w { places = with_place w.places c.args.id Empty }) c.self.view_is

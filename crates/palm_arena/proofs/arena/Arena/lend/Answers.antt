@@ -15,7 +15,7 @@ invariant_of-self-2 g c =
     let held = ap (λ (w : ArenaState). is_some (node_at w.places c.args.id)) c.self.view_is ∙ c.requires.held in
     let within = held_within c.self.inside.places.items c.args.id held in
     let saves = rw c.deref.ensures.value at c.in_ok-save.ensures.ok in
-    rw (c.push_reserved.ensures.items, c.reserve.ensures.items, c.replace-held.ensures.after) (placed c.self.inside.begun _ _ c.self.inside.places.items c.self.inside.moved.items (c.self.inside.moved.items ++ c.args.id ∷ []) c.args.id Lent some within saves (inr (Contains-push c.self.inside.moved.items c.args.id)) (λ other apart listed. listed) c.self.invariant).0
+    rw (c.push_reserved.ensures.items, c.reserve.ensures.items, c.replace-held.ensures.after) (placed c.self.inside _ (c.self.inside.moved.items ++ c.args.id ∷ []) c.args.id Lent some within saves (inr (Contains-push c.self.inside.moved.items c.args.id)) (λ other apart listed. listed) c.self.invariant).0
 
 pub returns-clause-ok : goal.returns-clause-ok
 returns-clause-ok g c =
@@ -23,9 +23,9 @@ returns-clause-ok g c =
     let held = ap (λ (w : ArenaState). is_some (node_at w.places c.args.id)) c.self.view_is ∙ c.requires.held in
     let within = held_within c.self.inside.places.items c.args.id held in
     let saves = rw c.deref.ensures.value at c.in_ok-save.ensures.ok in
-    let same = (placed c.self.inside.begun _ _ c.self.inside.places.items c.self.inside.moved.items (c.self.inside.moved.items ++ c.args.id ∷ []) c.args.id Lent some within saves (inr (Contains-push c.self.inside.moved.items c.args.id)) (λ other apart listed. listed) c.self.invariant).1 in
+    let goes = placed c.self.inside _ (c.self.inside.moved.items ++ c.args.id ∷ []) c.args.id Lent some within saves (inr (Contains-push c.self.inside.moved.items c.args.id)) (λ other apart listed. listed) c.self.invariant in
     seen _ _ _ _ _ _
     (ap (λ (p : Place). set c.self.inside.places.items c.args.id.place p) c.replace-held.ensures.after ∙ set_place-within c.self.inside.places.items c.args.id.place Lent within)
-    (ap (λ (p : Place). begun_with c.self.inside.begun c.save.new.self (set c.self.inside.places.items c.args.id.place p)) c.replace-held.ensures.after ∙ same)
+    (ap (λ (p : Place). begun_with c.self.inside.begun c.save.new.self (set c.self.inside.places.items c.args.id.place p)) c.replace-held.ensures.after ∙ goes.1)
     (c.push_reserved.ensures.items ∙ ap (λ (l : List NodeId). l ++ c.args.id ∷ []) c.reserve.ensures.items)
     ∙ ap (λ (w : ArenaState). record w { places = with_place w.places c.args.id Lent; moved = w.moved ++ c.args.id ∷ [] }) c.self.view_is

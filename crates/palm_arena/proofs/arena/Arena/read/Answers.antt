@@ -4,4 +4,4 @@ use Rattle.palm_arena.proofs.Seeing.{still}
 use Rattle.palm_arena.proofs.arena.Arena.read.Goals as goal
 
 pub returns-clause-still : goal.returns-clause-still
-returns-clause-still c = subst (λ (w : ArenaState). IsStill w) c.self.view_is (still c.self.inside.begun c.self.inside.journal c.self.inside.places.items c.self.inside.moved.items c.self.invariant)
+returns-clause-still c = subst (λ (w : ArenaState). IsStill w) c.self.view_is (still c.self.inside c.self.invariant)
