@@ -1,0 +1,6 @@
+pub mod ArenaState
+pub mod Journal
+pub mod Laws
+pub mod LeaseState
+pub mod LendsNode
+pub mod Reads

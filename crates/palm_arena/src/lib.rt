@@ -1,0 +1,17 @@
+//! Where the tree's nodes stand: an arena that lends them while a batch changes the tree, and takes back what an abandoned
+//! batch did.
+#![tactic(auto)]
+
+mod arena;
+mod journal;
+pub mod laws;
+mod lease;
+mod place;
+mod shape;
+#[cfg(test)]
+mod tests;
+
+pub use arena::Arena;
+pub use lease::Lease;
+pub use place::Place;
+pub use shape::Shape;

@@ -1,0 +1,10 @@
+use palm_node::NodeId;
+
+/// Where a tree stands in an arena.
+#[derive(Clone, Copy, Debug, PartialEq, Eq)]
+pub struct Shape {
+    /// Where its root is.
+    pub root: NodeId,
+    /// How many levels it has. A leaf alone is one level.
+    pub levels: u32,
+}
