@@ -1,0 +1,6 @@
+//! The table's tree: a lawful B+ tree, and how its rows are looked up.
+#![tactic(auto)]
+
+mod tree;
+
+pub use tree::Tree;
