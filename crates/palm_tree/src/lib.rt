@@ -1,6 +1,8 @@
 //! The table's tree: a lawful B+ tree, and how its rows are looked up.
 #![tactic(auto)]
 
+#[cfg(test)]
+mod tests;
 mod tree;
 
 pub use tree::Tree;
