@@ -14,7 +14,7 @@ use Rattle.palm_arena.specs.declared.place.Place.TheVariants.{Empty, Lent}
 use Rattle.palm_arena.specs.declared.journal.Saved.{Saved}
 use Rattle.palm_arena.specs.declared.journal.Journal.{Journal}
 use Rattle.palm_arena.specs.ArenaState.{place_at, node_in, node_at, IsHeld, IsVacant, NoneLent}
-use Rattle.palm_arena.specs.Journal.{undo, places_at_begin, begun_with, IsMarked, IsSaved, Saves, Appends, Covers, Keeps, IsIdle, IsKept}
+use Rattle.palm_arena.specs.Journal.{undo, places_at_begin, begun_with, IsMarked, IsSaved, Saves, Appends, Keeps, IsIdle, IsKept}
 use Rattle.palm_arena.proofs.Places.{live_within, neither, take-set_any}
 use Rattle.palm_arena.proofs.Marks.{marked_within, marked_same, marked_more, marked_cases, marked_append_cases, marked_append_end, marked_append_more, saved_more, saved_last, saved_cases}
 use Rattle.palm_arena.proofs.Undoing.{undo-saving, undo-appending, undo-set, undo-beside, undo-none}
