@@ -23,12 +23,6 @@ use Rattle.palm_arena.proofs.Undoing.{undo-saving, undo-appending, undo-set, und
 pub same_id : (id other : NodeId) → id.place ≡ other.place → id ≡ other
 same_id id other same = ap (λ (place : ℕ). let n : NodeId = record { place = place } in n) same
 
-pub dec_marked : (marks : List Bool) (i : ℕ) → IsMarked marks i ⊎ (¬ IsMarked marks i)
-dec_marked marks i = by_test (get_or marks i false) where
-  by_test : (b : Bool) → (b ≡ true) ⊎ (¬ (b ≡ true))
-  by_test true = inl refl
-  by_test false = inr (λ e. let d : false ≡ true = e in cc)
-
 -- What a journal that grew by one place says.
 record Grows (count : ℕ) (places : List Place) (i : ℕ) (before after : Journal) : Type 0 where
   pub more : (j : ℕ) → IsSaved before.saved.items j → IsSaved after.saved.items j
