@@ -1,18 +1,16 @@
 -- Worked examples of the definitions, which the checker computes.
-use Rattle.std.proofs.Common.{◌≡◌, ◌<◌, ℕ, zero, suc, false, true, List, [], ◌∷◌, refl, Some, None, Option, lit<}
+use Rattle.std.proofs.Common.{◌≡◌, ℕ, zero, suc, false, true, List, [], ◌∷◌, refl, Some, None, lit<}
 use Rattle.std.specs.Prelude.{IsSome}
 use Rattle.std.specs.List.{Contains, IsDistinct}
 use Rattle.palm_base.specs.declared.row.Row.{Row}
 use Rattle.palm_node.specs.declared.id.NodeId.{NodeId}
-use Rattle.palm_node.specs.declared.node.Node.{Node}
 use Rattle.palm_node.specs.declared.node.Node.TheVariants.{Leaf, Inner}
 use Rattle.palm_arena.specs.declared.place.Place.{Place}
 use Rattle.palm_arena.specs.declared.place.Place.TheVariants.{Empty, Lent, Holds}
-use Rattle.palm_arena.specs.declared.journal.Saved.{Saved}
 use Rattle.palm_arena.specs.declared.shape.Shape.{Shape}
-use Rattle.palm_arena.specs.ArenaState.{ArenaState, place_at, node_at, with_place, undone}
+use Rattle.palm_arena.specs.ArenaState.{place_at, node_at, with_place, undone}
 use Rattle.palm_arena.specs.Journal.{undo}
-use Rattle.palm_arena.specs.Reads.{map_of, reads, ReadsAs, ids_of, same_place, IsWhole}
+use Rattle.palm_arena.specs.Reads.{map_of, reads, ids_of, IsWhole}
 
 abbrev id : ℕ → NodeId
 id place = record { place = place }

@@ -14,7 +14,7 @@ use Rattle.palm_arena.specs.declared.place.Place.TheVariants.{Empty, Lent}
 use Rattle.palm_arena.specs.declared.journal.Saved.{Saved}
 use Rattle.palm_arena.specs.declared.journal.Journal.{Journal}
 use Rattle.palm_arena.specs.ArenaState.{place_at, node_in, node_at, IsHeld, IsVacant, NoneLent}
-use Rattle.palm_arena.specs.Journal.{undo, places_at_begin, begun_with, IsMarked, IsSaved, Saves, Appends, Covers, Keeps, IsIdle, IsKept}
+use Rattle.palm_arena.specs.Journal.{undo, places_at_begin, begun_with, IsMarked, IsSaved, Saves, Appends, Keeps, IsIdle, IsKept}
 use Rattle.palm_arena.proofs.Places.{live_within, neither, take-set_any}
 use Rattle.palm_arena.proofs.Marks.{marked_within, marked_same, marked_more, marked_cases, marked_append_cases, marked_append_end, marked_append_more, saved_more, saved_last, saved_cases}
 use Rattle.palm_arena.proofs.Undoing.{undo-saving, undo-appending, undo-set, undo-beside, undo-none}
@@ -22,12 +22,6 @@ use Rattle.palm_arena.proofs.Undoing.{undo-saving, undo-appending, undo-set, und
 -- Ids of one place are the same.
 pub same_id : (id other : NodeId) → id.place ≡ other.place → id ≡ other
 same_id id other same = ap (λ (place : ℕ). let n : NodeId = record { place = place } in n) same
-
-pub dec_marked : (marks : List Bool) (i : ℕ) → IsMarked marks i ⊎ (¬ IsMarked marks i)
-dec_marked marks i = by_test (get_or marks i false) where
-  by_test : (b : Bool) → (b ≡ true) ⊎ (¬ (b ≡ true))
-  by_test true = inl refl
-  by_test false = inr (λ e. let d : false ≡ true = e in cc)
 
 -- What a journal that grew by one place says.
 record Grows (count : ℕ) (places : List Place) (i : ℕ) (before after : Journal) : Type 0 where

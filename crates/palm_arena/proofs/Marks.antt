@@ -1,10 +1,10 @@
 -- Marks that are set and cleared, and entries that are added.
-use Rattle.std.proofs.Common.{◌≡◌, ◌≢◌, ◌⊎◌, ℕ, zero, suc, ◌<◌, Bool, true, false, List, [], ◌∷◌, ◌++◌, length, take, set, refl, sym, ap, ◌∙◌, arith, inl, inr}
+use Rattle.std.proofs.Common.{◌≡◌, ◌≢◌, ◌⊎◌, ℕ, zero, suc, ◌<◌, Bool, true, false, List, [], ◌∷◌, ◌++◌, length, set, refl, sym, ap, ◌∙◌, arith, inl, inr}
 use Rattle.std.proofs.lemmas.List.{get_or_past, get_or-set_same, get_or-set_other, get_or_push, get_or_append_left}
 use native.Mathlib.Decide.{dec_le, ℕ_discrete}
 use mathlib.Core.Logic.{dite}
 use Rattle.palm_arena.specs.declared.journal.Saved.{Saved}
-use Rattle.palm_arena.specs.Journal.{IsMarked, NoneMarked, IsSaved}
+use Rattle.palm_arena.specs.Journal.{IsMarked, IsSaved}
 
 pub marked_within : (marks : List Bool) (i : ℕ) → IsMarked marks i → i < length marks
 marked_within marks i marked = elim (dec_le (length marks) i) [
@@ -49,12 +49,6 @@ unmarked_cases (m ∷ marks) (suc i) zero marked = (marked, λ same. cc)
 unmarked_cases (m ∷ marks) (suc i) (suc j) marked =
     let (before, apart) = unmarked_cases marks i j marked in
     (before, λ same. apart (omega arith))
-
-pub none_marked_take : (n : ℕ) (marks : List Bool) → NoneMarked marks → NoneMarked (take n marks)
-none_marked_take zero marks none i marked = let e : false ≡ true = marked in cc
-none_marked_take (suc n) [] none i marked = none i marked
-none_marked_take (suc n) (m ∷ marks) none zero marked = none zero marked
-none_marked_take (suc n) (m ∷ marks) none (suc i) marked = none_marked_take n marks (λ k. none (suc k)) i marked
 
 pub saved_more : (entries : List Saved) (entry : Saved) (i : ℕ) → IsSaved entries i → IsSaved (entries ++ entry ∷ []) i
 saved_more [] entry i saved = absurd saved

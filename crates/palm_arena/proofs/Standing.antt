@@ -1,12 +1,10 @@
 -- The laws of places.
-use Rattle.std.proofs.Common.{◌≡◌, ◌≢◌, List, sym, ap, ◌∙◌, subst}
+use Rattle.std.proofs.Common.{◌≡◌, sym, ap, ◌∙◌}
 use mathlib.Core.Logic.{dite}
 use native.Mathlib.Decide.{ℕ_discrete}
 use Rattle.palm_node.specs.declared.id.NodeId.{NodeId}
-use Rattle.palm_node.specs.declared.node.Node.{Node}
-use Rattle.palm_arena.specs.declared.place.Place.{Place}
 use Rattle.palm_arena.specs.declared.place.Place.TheVariants.{Lent, Holds}
-use Rattle.palm_arena.specs.ArenaState.{place_at, with_place, NoneLent}
+use Rattle.palm_arena.specs.ArenaState.{place_at, with_place}
 use Rattle.palm_arena.specs.Laws.{PutStands, OthersStay, NoneLentAfterPut, NoneLentAfterReturn}
 use Rattle.palm_arena.proofs.Places.{at_set_place, beside_set_place}
 use Rattle.palm_arena.proofs.Keeping.{same_id}

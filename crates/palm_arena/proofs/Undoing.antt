@@ -8,7 +8,7 @@ use Rattle.palm_arena.specs.declared.place.Place.{Place}
 use Rattle.palm_arena.specs.declared.place.Place.TheVariants.{Empty}
 use Rattle.palm_arena.specs.declared.journal.Saved.{Saved}
 use Rattle.palm_arena.specs.declared.journal.Journal.{Journal}
-use Rattle.palm_arena.specs.Journal.{undo, IsSaved, IsMarked, NoneMarked, Covers}
+use Rattle.palm_arena.specs.Journal.{undo, IsSaved, IsMarked, Covers}
 use Rattle.palm_arena.proofs.Places.{set-set, set-comm, set-past, take-set_any}
 use Rattle.palm_arena.proofs.Marks.{saved_more, saved_last, saved_cases, unmarked_cases}
 
@@ -88,10 +88,6 @@ covers_less end before after entry popped cleared len covers = record {
         | inr before ↦ before
       ];
 }
-
--- Where nothing is saved nothing is marked.
-pub none_marked : (end : ℕ) (journal : Journal) → journal.saved.items ≡ [] → Covers end journal → NoneMarked journal.touched.items
-none_marked end journal none covers i marked = subst (λ (l : List Saved). IsSaved l i) none (covers.saved i marked)
 
 -- The entry that is taken off is of a place within.
 pub popped_within : (end : ℕ) (journal : Journal) (rest : List Saved) (entry : Saved) → journal.saved.items ≡ rest ++ entry ∷ [] → Covers end journal → entry.id.place < end

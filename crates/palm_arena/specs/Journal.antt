@@ -44,6 +44,12 @@ pub record Covers (end : ℕ) (journal : Journal) : Type 0 where
   pub below : (i : ℕ) → IsSaved journal.saved.items i → i < end
   pub saved : (i : ℕ) → IsMarked journal.touched.items i → IsSaved journal.saved.items i
 
+-- The same is saved of the same places, whatever is offered as free.
+-- So it is after an id was tried that turned out to be in use.
+pub record IsSame (before after : Journal) : Type 0 where
+  pub touched : after.touched.items ≡ before.touched.items
+  pub saved : after.saved.items ≡ before.saved.items
+
 -- What stood at the place is saved, if it wasn't yet. So saving Lent for 0, where a was saved for it, changes nothing.
 pub record Saves (id : NodeId) (place : Place) (before after : Journal) : Type 0 where
   pub touched : after.touched.items ≡ slice_set before.touched.items id.place true

@@ -5,7 +5,7 @@
 // again from the next batch on, and never within it, so that what stood there can be put back.
 ghost use Rattle.std.specs.Prelude.{◌≡◌, ◌+◌, ◌++◌, ◌∷◌, [], length, ◌<◌, Some, None, IsSome, is_some, IfOk, OnOk, OnErr};
 ghost use Rattle.palm_arena.specs.ArenaState.{ArenaState, node_at, with_place, undone, IsHeld, IsLent, IsVacant, IsVacantAtBegin, NoneLent, IsStill};
-ghost use Rattle.palm_arena.specs.Journal.{IsMarked, Puts};
+ghost use Rattle.palm_arena.specs.Journal.{IsMarked, IsSame, Puts};
 
 use crate::journal::Journal;
 use crate::lease::Lease;
@@ -57,8 +57,7 @@ fn reuse(
     requires untouched { ¬ IsMarked journal.old.touched.items id.place }
     ensures ok { IfOk result (λ id. Puts id node journal.old places.old.items journal.new places.new.items) }
     ensures err_places { OnErr result (places.new.items ≡ places.old.items) }
-    ensures err_saved { OnErr result (journal.new.saved.items ≡ journal.old.saved.items) }
-    ensures err_touched { OnErr result (journal.new.touched.items ≡ journal.old.touched.items) }
+    ensures err_journal { OnErr result (IsSame journal.old journal.new) }
 {
     journal.save(id, places)?;
     places[id.place] = Place::Holds(node);
@@ -70,8 +69,7 @@ fn append(places: &mut Vec<Place>, journal: &mut Journal, node: Node) -> Result<
     requires marks { length journal.old.touched.items ≡ length places.old.items }
     ensures ok { IfOk result (λ id. Puts id node journal.old places.old.items journal.new places.new.items) }
     ensures err_places { OnErr result (places.new.items ≡ places.old.items) }
-    ensures err_saved { OnErr result (journal.new.saved.items ≡ journal.old.saved.items) }
-    ensures err_touched { OnErr result (journal.new.touched.items ≡ journal.old.touched.items) }
+    ensures err_journal { OnErr result (IsSame journal.old journal.new) }
 {
     places.reserve(1)?;
     let id = NodeId {
@@ -87,8 +85,7 @@ fn put(places: &mut Vec<Place>, journal: &mut Journal, node: Node) -> Result<Nod
     requires marks { length journal.old.touched.items ≡ length places.old.items }
     ensures ok { IfOk result (λ id. Puts id node journal.old places.old.items journal.new places.new.items) }
     ensures err_places { OnErr result (places.new.items ≡ places.old.items) }
-    ensures err_saved { OnErr result (journal.new.saved.items ≡ journal.old.saved.items) }
-    ensures err_touched { OnErr result (journal.new.touched.items ≡ journal.old.touched.items) }
+    ensures err_journal { OnErr result (IsSame journal.old journal.new) }
 {
     match journal.vacant(places) {
         Some(id) => reuse(places, journal, id, node),

@@ -8,7 +8,7 @@
 // A batch that touches k places keeps k nodes at most, however often it lends them.
 ghost use Rattle.std.specs.Prelude.{◌≡◌, ◌<◌, ◌≤◌, [], length, OnOk, OnErr, IfSome};
 ghost use Rattle.palm_arena.specs.ArenaState.{place_at, IsVacant};
-ghost use Rattle.palm_arena.specs.Journal.{IsMarked, NoneMarked, Covers, Saves, Appends, places_at_begin};
+ghost use Rattle.palm_arena.specs.Journal.{IsMarked, NoneMarked, Covers, IsSame, Saves, Appends, places_at_begin};
 
 use crate::place::Place;
 use palm_base::NoMemory;
@@ -61,8 +61,7 @@ impl Journal {
         requires within { id.place < length places.now }
         requires marks { length self.old.touched.items ≡ length places.now }
         ensures ok { OnOk result (Saves id (place_at places.now id) self.old self.new) }
-        ensures err_saved { OnErr result (self.new.saved.items ≡ self.old.saved.items) }
-        ensures err_touched { OnErr result (self.new.touched.items ≡ self.old.touched.items) }
+        ensures err { OnErr result (IsSame self.old self.new) }
     {
         if self.touched[id.place] {
             return Ok(());
@@ -77,8 +76,7 @@ impl Journal {
     /// Saves that a new place, past the last one, was empty. Nothing is saved where memory is refused.
     pub(crate) fn append(&mut self, id: NodeId) -> Result<(), NoMemory>
         ensures ok { OnOk result (Appends id Place.Empty self.old self.new) }
-        ensures err_saved { OnErr result (self.new.saved.items ≡ self.old.saved.items) }
-        ensures err_touched { OnErr result (self.new.touched.items ≡ self.old.touched.items) }
+        ensures err { OnErr result (IsSame self.old self.new) }
     {
         self.touched.reserve(1)?;
         self.free.reserve(self.saved.len() + 1)?;
@@ -96,8 +94,7 @@ impl Journal {
         ensures within { IfSome result (λ id. id.place < length places.now) }
         ensures vacant { IfSome result (λ id. IsVacant places.now id) }
         ensures untouched { IfSome result (λ id. ¬ IsMarked self.old.touched.items id.place) }
-        ensures saved { self.new.saved.items ≡ self.old.saved.items }
-        ensures touched { self.new.touched.items ≡ self.old.touched.items }
+        ensures same { IsSame self.old self.new }
     {
         let id = self.free.pop()?;
         let Some(Place::Empty) = places.get(id.place) else {

@@ -9,8 +9,8 @@ if_ok (Err e) step holds = holds
 
 pub returns-in-Some-clause-ok : goal.returns-in-Some-clause-ok
 returns-in-Some-clause-ok c =
-    if_ok c.reuse.result (λ id puts. puts_same id c.args.node _ _ _ _ _ c.vacant.ensures.saved c.vacant.ensures.touched puts) c.reuse.ensures.ok
+    if_ok c.reuse.result (λ id puts. puts_same id c.args.node _ _ _ _ _ c.vacant.ensures.same.saved c.vacant.ensures.same.touched puts) c.reuse.ensures.ok
 
 pub returns-in-None-clause-ok : goal.returns-in-None-clause-ok
 returns-in-None-clause-ok c =
-    if_ok c.append.result (λ id puts. puts_same id c.args.node _ _ _ _ _ c.vacant.ensures.saved c.vacant.ensures.touched puts) c.append.ensures.ok
+    if_ok c.append.result (λ id puts. puts_same id c.args.node _ _ _ _ _ c.vacant.ensures.same.saved c.vacant.ensures.same.touched puts) c.append.ensures.ok

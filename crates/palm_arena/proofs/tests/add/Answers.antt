@@ -1,9 +1,9 @@
-use Rattle.std.proofs.Common.{◌≡◌, ◌++◌, ◌∷◌, [], Result, Ok, Err, sym, ap, subst}
+use Rattle.std.proofs.Common.{◌≡◌, ◌++◌, ◌∷◌, [], Result, Ok, Err, sym, subst}
 use Rattle.std.specs.Prelude.{IfOk, OnErr}
 use Rattle.palm_base.specs.declared.memory.NoMemory.{NoMemory}
 use Rattle.palm_node.specs.declared.id.NodeId.{NodeId}
 use Rattle.palm_node.specs.declared.node.Node.{Node}
-use Rattle.palm_arena.specs.declared.place.Place.TheVariants.{Lent, Holds}
+use Rattle.palm_arena.specs.declared.place.Place.TheVariants.{Holds}
 use Rattle.palm_arena.specs.ArenaState.{ArenaState, with_place, NoneLent}
 use Rattle.palm_arena.proofs.Standing.{none_lent_after_put}
 use Rattle.palm_arena.proofs.tests.add.Goals as goal

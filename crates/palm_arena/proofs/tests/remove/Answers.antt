@@ -2,7 +2,7 @@ use Rattle.std.proofs.Common.{◌≡◌, Result, Ok, Err, sym, subst}
 use Rattle.std.specs.Prelude.{OnOk, OnErr}
 use Rattle.palm_base.specs.declared.memory.NoMemory.{NoMemory}
 use Rattle.palm_node.specs.declared.id.NodeId.{NodeId}
-use Rattle.palm_arena.specs.declared.place.Place.TheVariants.{Empty, Lent}
+use Rattle.palm_arena.specs.declared.place.Place.TheVariants.{Empty}
 use Rattle.palm_arena.specs.ArenaState.{ArenaState, with_place, NoneLent}
 use Rattle.palm_arena.proofs.Standing.{none_lent_after_put}
 use Rattle.palm_arena.proofs.tests.remove.Goals as goal

@@ -1,14 +1,6 @@
-use Rattle.std.proofs.Common.{◌≡◌, ◌<◌, length, List, [], ◌∷◌, ◌++◌, set, refl, sym, ap, ◌∙◌, subst, inl, inr, is_some, Some, None, ℕ, arith}
-use Rattle.std.proofs.lemmas.List.Elements.{Contains-push}
-use Rattle.palm_node.specs.declared.id.NodeId.{NodeId}
-use Rattle.palm_arena.specs.declared.place.Place.{Place}
-use Rattle.palm_arena.specs.declared.place.Place.TheVariants.{Empty, Lent, Holds}
-use Rattle.palm_arena.specs.ArenaState.{ArenaState, place_at, node_at, with_place, IsVacantAtBegin, NoneLent, IsStill}
-use Rattle.palm_arena.specs.LeaseState.{LeaseState}
-use Rattle.palm_arena.specs.Journal.{begun_with}
-use Rattle.palm_arena.proofs.Places.{held_within, lent_within, set_place-within}
-use Rattle.palm_arena.proofs.Keeping.{unlisted}
-use Rattle.palm_arena.proofs.Seeing.{seen, placed, taken, returned, unused, still, begins}
+use Rattle.std.proofs.Common.{◌≡◌, length, [], refl, sym, ap, ◌∙◌, Some, arith}
+use Rattle.palm_arena.specs.ArenaState.{ArenaState, place_at, NoneLent}
+use Rattle.palm_arena.proofs.Seeing.{seen, begins}
 use Rattle.palm_arena.proofs.arena.Arena.begin.Goals as goal
 
 pub returns : goal.returns
