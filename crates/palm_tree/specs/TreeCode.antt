@@ -7,9 +7,12 @@ use base.Stored.{Gv, gnil, gnum, gcons, num}
 use Rattle.palm_base.specs.Tree.{Subtree, Tree}
 use Rattle.palm_base.specs.declared.row.Row.{Row}
 
+-- A row's code is that of its prefix and its rate. So 44 at 5 is told from 44 at 6 and from 45 at 5.
 abbrev pub row_code : Coded Row
 row_code = code_by (List ℕ × ℕ) (coded× (coded_list coded_ℕ) coded_ℕ) (λ row. (row.prefix, row.rate)) (λ p. record { prefix = p.0; rate = p.1 }) (λ _. refl)
 
+-- A leaf's code is that of its rows, and an inner node's that of its children and their lows.
+-- So two nodes of one level that differ in a row or in a low have two codes.
 abbrev pub subtree_code : (n : ℕ) → Coded (Subtree n)
 subtree_code zero = coded_list row_code
 subtree_code (suc n) = coded_list (coded× coded_ℕ (subtree_code n))
@@ -25,9 +28,11 @@ right_of gnil = gnil
 right_of (gnum n) = gnil
 right_of (gcons left right) = right
 
+-- The tree of a root so many levels above the leaves. So a leaf is one with none below it.
 abbrev pub tree_at : (n : ℕ) → Subtree n → Tree
 tree_at n node = (n, node)
 
+-- A tree's code: its levels, and the code of its root. So a leaf of one row and an inner node over one child differ.
 abbrev code_of : Tree → Gv
 code_of tree = gcons (gnum tree.0) ((subtree_code tree.0).code tree.1)
 
