@@ -1,4 +1,5 @@
 pub mod Cut
+pub mod Extends
 pub mod Fronts
 pub mod FurtherLaws
 pub mod History

@@ -11,6 +11,7 @@ mod row;
 mod steps;
 #[cfg(test)]
 mod tests;
+pub mod text;
 pub mod tree_laws;
 
 pub use amount::{Amount, Limit, MOST_LIMIT, MOST_RATE};

@@ -1,4 +1,3 @@
-mod Appended
 pub mod Cuts
 pub mod Examples
 pub mod Faults

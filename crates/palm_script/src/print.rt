@@ -1,74 +1,9 @@
 ghost use Rattle.std.specs.Prelude.{◌≡◌, ◌++◌, codes, OnOk, OnErr};
-ghost use Rattle.std.specs.Fmt.{decimal};
-ghost use Rattle.palm_script.specs.Printing.{Extends};
-ghost use Rattle.palm_base.specs.Text.{digits_text, row_text, listed_row_text, rows_text};
+ghost use Rattle.palm_base.specs.Extends.{Extends};
 ghost use Rattle.palm_script.specs.Transcript.{answer_text, reply_line, batch_line, end_line};
 
-use itoa::Buffer;
-use palm_base::{Amount, Digits, NoMemory, Reply, Row, RowList};
-
-fn append(text: &[u8], out: &mut Vec<u8>) -> Result<(), NoMemory>
-    ensures ok { OnOk result (out.new.items ≡ out.old.items ++ text.now) }
-    ensures kept { Extends out.old.items out.new.items }
-{
-    out.extend_from_slice(text)?;
-    Ok(())
-}
-
-fn append_number(number: u64, out: &mut Vec<u8>) -> Result<(), NoMemory>
-    ensures ok { OnOk result (out.new.items ≡ out.old.items ++ decimal number) }
-    ensures kept { Extends out.old.items out.new.items }
-{
-    let mut buffer = Buffer::new();
-    append(buffer.format(number).as_bytes(), out)
-}
-
-fn append_digits(digits: &Digits, out: &mut Vec<u8>) -> Result<(), NoMemory>
-    ensures ok { OnOk result (out.new.items ≡ out.old.items ++ digits_text digits.now) }
-    ensures kept { Extends out.old.items out.new.items }
-{
-    for place in 0..digits.len() {
-        out.push(b'0' + digits.digit(place))?;
-    }
-    Ok(())
-}
-
-// A word of the transcript, and the rate after it.
-fn append_rate(word: &[u8], rate: &Amount, out: &mut Vec<u8>) -> Result<(), NoMemory>
-    ensures ok { OnOk result (out.new.items ≡ out.old.items ++ (word.now ++ decimal rate.now)) }
-    ensures kept { Extends out.old.items out.new.items }
-{
-    append(word, out)?;
-    append_number(rate.get(), out)
-}
-
-fn append_row(row: &Row, out: &mut Vec<u8>) -> Result<(), NoMemory>
-    ensures ok { OnOk result (out.new.items ≡ out.old.items ++ row_text row.now) }
-    ensures kept { Extends out.old.items out.new.items }
-{
-    append_digits(&row.prefix, out)?;
-    append_rate(b" ", &row.rate, out)
-}
-
-fn append_listed_row(row: &Row, out: &mut Vec<u8>) -> Result<(), NoMemory>
-    ensures ok { OnOk result (out.new.items ≡ out.old.items ++ listed_row_text row.now) }
-    ensures kept { Extends out.old.items out.new.items }
-{
-    append(b" ", out)?;
-    append_row(row, out)
-}
-
-// The number of rows, and each row after a blank.
-fn append_rows(rows: &RowList, out: &mut Vec<u8>) -> Result<(), NoMemory>
-    ensures ok { OnOk result (out.new.items ≡ out.old.items ++ rows_text rows.now) }
-    ensures kept { Extends out.old.items out.new.items }
-{
-    append_number(rows.len() as u64, out)?;
-    for i in 0..rows.len() {
-        append_listed_row(&rows.get(i), out)?;
-    }
-    Ok(())
-}
+use palm_base::text::{append, append_number, append_rate, append_row, append_rows};
+use palm_base::{NoMemory, Reply};
 
 fn append_answer(reply: &Reply, out: &mut Vec<u8>) -> Result<(), NoMemory>
     ensures ok { OnOk result (out.new.items ≡ out.old.items ++ answer_text reply.now) }

@@ -1,6 +1,6 @@
 use Rattle.std.proofs.Common.{◌≡◌, ◌++◌, take}
 use Rattle.palm_base.specs.Text.{digits_text}
-use Rattle.palm_script.proofs.print.append_digits.Given as goal
+use Rattle.palm_base.proofs.text.append_digits.Given as goal
 
 -- the digits so far stand after what was there
 abbrev pub invariant-loop-place : goal.invariant-loop-place

@@ -5,7 +5,7 @@ use Rattle.std.specs.List.{flat_map}
 use Rattle.std.proofs.Math.Seq.{take-append_seam}
 use Rattle.std.proofs.lemmas.List.{length-append, take-take, take_more, flat_map_more}
 use Rattle.std.proofs.lemmas.Option.{get_or_from_slice_get, slice_get_within}
-use Rattle.palm_script.specs.Printing.{Extends}
+use Rattle.palm_base.specs.Extends.{Extends}
 
 -- What was there stays at the front through one more piece.
 pub extends_more : {X : Type 0} (old now new more : List X) → now ≡ old ++ more → Extends now new → Extends old new

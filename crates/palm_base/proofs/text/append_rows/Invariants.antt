@@ -2,7 +2,7 @@ use Rattle.std.proofs.Common.{◌≡◌, ◌++◌, length, take}
 use Rattle.std.specs.List.{flat_map}
 use Rattle.std.specs.Fmt.{decimal}
 use Rattle.palm_base.specs.Text.{listed_row_text}
-use Rattle.palm_script.proofs.print.append_rows.Given as goal
+use Rattle.palm_base.proofs.text.append_rows.Given as goal
 
 -- the count and the rows so far stand after what was there
 abbrev pub invariant-loop-i : goal.invariant-loop-i

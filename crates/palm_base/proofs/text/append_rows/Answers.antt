@@ -1,6 +1,6 @@
 use Rattle.palm_base.specs.Text.{listed_row_text}
-use Rattle.palm_script.proofs.Appended.{extends_more, flat_map_next}
-use Rattle.palm_script.proofs.print.append_rows.Goals as goal
+use Rattle.palm_base.proofs.Appended.{extends_more, flat_map_next}
+use Rattle.palm_base.proofs.text.append_rows.Goals as goal
 
 pub returns-in_err-append_listed_row-clause-kept : goal.returns-in_err-append_listed_row-clause-kept
 returns-in_err-append_listed_row-clause-kept c = extends_more _ _ _ _ c.loop-i.invariant c.in_err-append_listed_row.ensures.kept
