@@ -20,3 +20,11 @@ flat_map_next text xs i x front head old new found so_far more =
     let next : take (i + 1) xs ≡ take i xs ++ x ∷ [] = rw (get_or_from_slice_get xs i x x found) at (take_more xs i x (slice_get_within xs i x found)) in
     let joined : (head ++ flat_map text (take i xs)) ++ text x ≡ head ++ flat_map text (take (i + 1) xs) = rw next (flat_map_more text head (take i xs) x) in
     more ∙ ap (λ (l : List ℕ). l ++ text x) so_far ∙ append_assoc front (head ++ flat_map text (take i xs)) (text x) ∙ ap (λ (l : List ℕ). front ++ l) joined
+
+-- A list with something appended begins with it.
+pub extended : {X : Type 0} (old new more : List X) → new ≡ old ++ more → Extends old new
+extended old new more e = record { front = ap (take (length old)) e ∙ take-append_seam old more }
+
+-- What follows an appended piece follows what it was appended to, with the piece before it.
+pub append_next : {X : Type 0} (old piece new rest : List X) → new ≡ old ++ piece → new ++ rest ≡ old ++ (piece ++ rest)
+append_next old piece new rest e = ap (λ (l : List _). l ++ rest) e ∙ append_assoc old piece rest
