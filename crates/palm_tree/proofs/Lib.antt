@@ -1,7 +1,11 @@
 pub mod Builds
+pub mod ChildParts
+pub mod Children
 pub mod Descents
 pub mod EmptyTree
 pub mod FrontRates
+pub mod LeafParts
+pub mod Limits
 pub mod Ranges
 pub mod Readings
 pub mod Standing
