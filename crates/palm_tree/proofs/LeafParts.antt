@@ -8,7 +8,7 @@ use Rattle.palm_base.specs.Table.{row_key, lies_within, IsTable}
 use Rattle.palm_base.proofs.Every.{every_weaker}
 use Rattle.palm_base.proofs.TableSplits.{From}
 use Rattle.palm_base.specs.declared.row.Row.{Row}
-use Rattle.palm_tree.proofs.Limits.{take_short, one_more, no_more}
+use Rattle.palm_tree.proofs.Limits.{one_more, no_more}
 use Rattle.palm_tree.proofs.Ranges.{within-from}
 
 -- What passes a test, up to an item and with it.
@@ -35,13 +35,11 @@ not_yet_within from to row less = rw (lt-leb from (row_key row) less) refl
 
 -- A row of the range is appended.
 pub row_appended : (from to limit i : ℕ) (held rows now next : List Row) (row : Row) → now ≡ take limit (held ++ filter (lies_within from to) (take i rows))
-    → slice_get rows i ≡ Some row → from ≤ row_key row → row_key row ≤ to → ¬ (length now ≡ limit) → next ≡ now ++ row ∷ []
+    → slice_get rows i ≡ Some row → from ≤ row_key row → row_key row ≤ to → length now < limit → next ≡ now ++ row ∷ []
     → next ≡ take limit (held ++ filter (lies_within from to) (take (i + 1) rows))
-row_appended from to limit i held rows now next row is got least most differs pushed =
+row_appended from to limit i held rows now next row is got least most room pushed =
     let part : filter (lies_within from to) (take (i + 1) rows) ≡ filter (lies_within from to) (take i rows) ++ row ∷ [] =
     filter_next (lies_within from to) rows i row got ∙ ap (λ b. filter (lies_within from to) (take i rows) ++ cond b (row ∷ []) []) (within from to row least most) in
-    let within_limit : length now ≤ limit = rw is (take_short limit _) in
-    let room : length now < limit = omega (arith, within_limit, differs) in
     let fits : length (now ++ row ∷ []) ≤ limit = omega (arith, length_push now row, room) in
     rw part (one_more limit held (filter (lies_within from to) (take i rows)) (row ∷ []) now next is (pushed ∙ sym (take_all limit (now ++ row ∷ []) fits)))
 

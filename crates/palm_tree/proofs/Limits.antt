@@ -1,4 +1,4 @@
--- Rows appended to others as far as a limit allows: a part after a part, and an end where no more is left or fits.
+-- Items appended to others as far as a limit allows: a part after a part, and an end where no more is left or fits.
 use Rattle.std.proofs.Common.{◌≡◌, ℕ, zero, suc, ◌≤◌, List, [], ◌∷◌, ◌++◌, length, take, refl, sym, ap, arith, ◌∙◌, ◌⊎◌, inl, inr}
 use Rattle.std.proofs.lemmas.List.{append-nil, append_assoc, take_all}
 

@@ -21,7 +21,8 @@ pub record HasNodeBelow (places : List Place) (below : ℕ) (id : NodeId) : Type
   pub reads-as : reads (map_of places) below id ≡ Some node
   pub ordered : IsOrdered below node
 
--- The rows of a node that was read, and none where nothing was.
+-- The rows of a node that was read, and none where nothing was. So of a node over the leaves of 1 and of 2 they are the
+-- rows of 1 and 2.
 abbrev pub rows_read : (n : ℕ) → Option (Subtree n) → List Row
 rows_read n None = []
 rows_read n (Some node) = rows_in n node

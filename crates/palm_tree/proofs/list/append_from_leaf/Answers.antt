@@ -1,4 +1,5 @@
-use Rattle.std.proofs.Common.{inl, inr, arith, ◌∙◌}
+use Rattle.std.proofs.Common.{◌≤◌, inl, inr, length, arith, ◌∙◌}
+use Rattle.palm_tree.proofs.Limits.{take_short}
 use Rattle.palm_tree.proofs.LeafParts.{row_appended, row_passed, rows_end}
 use Rattle.palm_tree.proofs.list.append_from_leaf.Goals as goal
 use Rattle.palm_tree.proofs.list.append_from_leaf.Goals.{then-key-range-2+in_ok-push, else-key-range-2, then-key-range-via-then-key-range, then-key-range-via-else-key-range+then-len-range}
@@ -9,11 +10,12 @@ loop-i-preserved c =
     let to = c.args.range.now.to in
     let limit = c.args.range.now.limit in
     let own = c.key-key.ensures.key in
+    let fits : length c.loop-i.rows ≤ limit = rw c.loop-i.invariant (take_short limit _) in
     elim c.if-key-range-2.branch [
       | then-key-range-2+in_ok-push w ↦
           row_appended from to limit c.loop-i.i c.args.rows.now c.args.leaf.now c.loop-i.rows c.if-key-range-2.rows c.row-row.result
           c.loop-i.invariant c.row-row.ensures (omega (arith, own, w.if-key-range-2.true)) (omega (arith, own, c.if-key-range.false))
-          (λ e. c.if-len-range.false (c.len.ensures ∙ e)) (w.rows-is ∙ w.in_ok-push.ensures.ok)
+          (omega (arith, fits, c.len.ensures, c.if-len-range.false)) (w.rows-is ∙ w.in_ok-push.ensures.ok)
       | else-key-range-2 w ↦
           rw w.rows-is (row_passed from to limit c.loop-i.i c.args.rows.now c.args.leaf.now c.loop-i.rows c.row-row.result
           c.loop-i.invariant c.row-row.ensures (omega (arith, own, w.if-key-range-2.false)))
