@@ -10,7 +10,8 @@ use Rattle.palm_base.specs.declared.bounds.TheConstants.{MOST_CHILDREN}
 use Rattle.palm_base.specs.declared.row.Row.{Row}
 
 -- An inner node has a child at least and no more than fit, and they are in order. Of a leaf nothing is asked, since its
--- rows always are. So a root over the leaves of 1 and of 2 is ordered, where the low of the second leaf is the key of 2.
+-- rows always are. So a root over two leaves of 8 rows is ordered where the keys of the first lie below the low of the
+-- second, and those of the second don't.
 abbrev pub IsOrdered : (n : ℕ) → Subtree n → Type 0
 IsOrdered zero rows = Unit {0}
 IsOrdered (suc n) children = HasFromTo 1 MOST_CHILDREN children × ((low : ℕ) × (high : ℕ) × InOrder n low high children)

@@ -1,4 +1,4 @@
-// The rows of a range: they are found once, by the way to the first of them, and from there on leaf by leaf.
+// The look-up of a range of rows: down once to where it begins, and then along its leaves.
 ghost use Rattle.std.specs.Prelude.{◌≡◌, ◌≤◌, ◌++◌, length, take, filter, OnOk, IfOk};
 ghost use Rattle.palm_base.specs.Key.{key};
 ghost use Rattle.palm_base.specs.Table.{lies_within};
@@ -64,8 +64,8 @@ fn append_below(
 
 impl Tree {
     /// The rows whose prefixes stand from one to another, both included, in order, `limit` of them at most. `NoMemory`
-    /// where room for them was refused. It goes down once, and then along the leaves of the range, no further than to the
-    /// last row that it gives.
+    /// where room for them was refused. It goes down once, to where the range begins, and then along its leaves, to where
+    /// the range ends or the limit is reached.
     pub fn list(&self, from: &Digits, to: &Digits, limit: Limit) -> Result<RowList, NoMemory>
         ensures { IfOk result (λ rows. rows ≡ take limit (filter (lies_within (key from.now) (key to.now)) (rows_of self.now))) }
     {
