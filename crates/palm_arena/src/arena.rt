@@ -106,6 +106,11 @@ impl Arena {
         })
     }
 
+    /// The allocator that the arena takes its memory from.
+    pub fn allocator(&self) -> Global {
+        *self.places.allocator()
+    }
+
     /// Whether a node stands at an id, so that it can be read, lent and dropped.
     pub fn is_held(&self, id: NodeId) -> bool
         ensures { result ≡ is_some (node_at self.now.places id) }

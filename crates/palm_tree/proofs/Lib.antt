@@ -1,8 +1,12 @@
 pub mod Builds
+pub mod ChildParts
+pub mod Children
 pub mod Descents
 pub mod EmptyTree
 pub mod FrontRates
+pub mod LeafParts
 pub mod LevelTexts
+pub mod Limits
 pub mod Lists
 pub mod Ranges
 pub mod Readings

@@ -1,10 +1,10 @@
 -- Where a look-up stands: at a node that reads, so many levels down, among whose rows the key has the rate that it has in
 -- the tree.
-use Rattle.std.proofs.Common.{◌≡◌, ℕ, zero, suc, ◌+◌, ◌<◌, ◌≤◌, List, [], ◌∷◌, length, get_or, slice_get, count_by, nat_le, Option, Some, refl, sym, ap, subst, arith, ◌∙◌}
+use Rattle.std.proofs.Common.{◌≡◌, ℕ, zero, suc, ◌+◌, ◌<◌, ◌≤◌, List, [], ◌∷◌, get_or, slice_get, count_by, nat_le, Option, Some, refl, sym, ap, subst, arith, ◌∙◌}
 use Rattle.std.proofs.lemmas.Option.{get_or_from_slice_get}
 use Rattle.palm_base.specs.Table.{rate_at}
 use Rattle.palm_base.specs.Tree.{Subtree, Tree, rows_in, rows_of}
-use Rattle.palm_base.specs.Lawful.{Sound, InOrder, Root}
+use Rattle.palm_base.specs.Lawful.{Sound, Root}
 use Rattle.palm_base.specs.declared.row.Row.{Row}
 use Rattle.palm_node.specs.InnerNode.{InnerNode}
 use Rattle.palm_node.specs.declared.id.NodeId.{NodeId}
@@ -13,28 +13,24 @@ use Rattle.palm_node.specs.declared.node.Node.TheVariants.{Leaf, Inner}
 use Rattle.palm_arena.specs.ArenaState.{ArenaState}
 use Rattle.palm_arena.specs.Reads.{map_of, reads}
 use Rattle.palm_arena.specs.declared.shape.Shape.{Shape}
+use Rattle.palm_tree.specs.Below.{IsOrdered}
 use Rattle.palm_tree.specs.Routes.{separators_of, route_of}
 use Rattle.palm_tree.specs.TreeValue.{tree_of, HoldsTree}
 use Rattle.palm_tree.proofs.Descents.{Leads, leads}
 use Rattle.palm_tree.proofs.Readings.{ReadsOver, inner_reads, leaf_reads}
 use Rattle.palm_tree.proofs.Values.{value_reads}
 
--- The children of an inner node are in order. Of a leaf nothing is asked.
-abbrev Ordered : (n : ℕ) → Subtree n → Type 0
-Ordered zero rows = Unit {0}
-Ordered (suc n) children = (1 ≤ length children) × ((low : ℕ) × (high : ℕ) × InOrder n low high children)
-
-root_ordered : (n high : ℕ) (node : Subtree n) → Root n high node → Ordered n node
+pub root_ordered : (n high : ℕ) (node : Subtree n) → Root n high node → IsOrdered n node
 root_ordered zero high rows root = tt
-root_ordered (suc n) high children root = (omega (arith, root.0.0), (0, high, root.2))
+root_ordered (suc n) high children root = ((omega (arith, root.0.0), root.0.1), (0, high, root.2))
 
-sound_ordered : (n low high : ℕ) (node : Subtree n) → Sound n low high node → Ordered n node
+pub sound_ordered : (n low high : ℕ) (node : Subtree n) → Sound n low high node → IsOrdered n node
 sound_ordered zero low high rows sound = tt
-sound_ordered (suc n) low high children sound = (omega (arith, sound.0.0), (low, high, sound.2))
+sound_ordered (suc n) low high children sound = ((omega (arith, sound.0.0), sound.0.1), (low, high, sound.2))
 
 record NodeAt (nodes : NodeId → Option Node) (k : ℕ) (rate : Option ℕ) (id : NodeId) (n : ℕ) (node : Subtree n) : Type 0 where
   reads-as : reads nodes n id ≡ Some node
-  ordered : Ordered n node
+  ordered : IsOrdered n node
   rated : rate_at k (rows_in n node) ≡ rate
 
 -- `level` of `levels` levels are reached at this id, counted from 1 at the root.
@@ -64,7 +60,7 @@ unfolding Stands
 stands_leaf nodes k rate levels level id (zero, at, (rows, s)) last = (rows, leaf_reads nodes id rows s.reads-as, s.rated)
 stands_leaf nodes k rate levels level id (suc n, at, (children, s)) last = absurd (omega arith)
 
-inner_same : (a b : InnerNode) (at : Option Node) → at ≡ Some (Inner a) → at ≡ Some (Inner b) → a ≡ b
+pub inner_same : (a b : InnerNode) (at : Option Node) → at ≡ Some (Inner a) → at ≡ Some (Inner b) → a ≡ b
 inner_same a b at e f = cc
 
 -- The child that a key is routed to stands one level down.
@@ -74,7 +70,7 @@ pub stands_next : (nodes : NodeId → Option Node) (k : ℕ) (rate : Option ℕ)
     → Stands nodes k rate levels (level + 1) child
 unfolding Stands
 stands_next nodes k rate levels level id child inner (zero, at, (node, s)) less here got = absurd (omega arith)
-stands_next nodes k rate levels level id child inner (suc n, at, ([], s)) less here got = absurd (omega (arith, s.ordered.0))
+stands_next nodes k rate levels level id child inner (suc n, at, ([], s)) less here got = absurd (omega (arith, s.ordered.0.0))
 stands_next nodes k rate levels level id child inner (suc n, at, (first ∷ children, s)) less here got =
     let known = inner_reads nodes n id (first ∷ children) s.reads-as in
     let same : known.0 ≡ inner = inner_same known.0 inner (nodes id) known.1 here in

@@ -1,3 +1,4 @@
+pub mod Below
 pub mod Levels
 pub mod Routes
 pub mod TreeCode

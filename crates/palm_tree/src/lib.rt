@@ -2,6 +2,7 @@
 #![tactic(auto)]
 
 mod dump;
+mod list;
 #[cfg(test)]
 mod tests;
 mod tree;
