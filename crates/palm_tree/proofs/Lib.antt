@@ -2,6 +2,8 @@ pub mod Builds
 pub mod Descents
 pub mod EmptyTree
 pub mod FrontRates
+pub mod IdCounts
+pub mod NewNodes
 pub mod Ranges
 pub mod Readings
 pub mod Standing
