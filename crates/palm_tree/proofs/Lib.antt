@@ -4,6 +4,7 @@ pub mod EmptyTree
 pub mod FrontRates
 pub mod IdCounts
 pub mod NewNodes
+pub mod PieceReads
 pub mod Ranges
 pub mod Readings
 pub mod Standing
