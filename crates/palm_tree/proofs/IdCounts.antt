@@ -12,30 +12,19 @@ use Rattle.palm_arena.specs.Reads.{map_of, same_place}
 use Rattle.palm_arena.specs.declared.place.Place.{Place}
 use Rattle.palm_arena.specs.declared.place.Place.TheVariants.{Holds}
 use Rattle.palm_arena.proofs.Keeping.{same_id}
+use Rattle.palm_tree.specs.Levels.{times, live, MeetsLive}
 use Rattle.palm_arena.proofs.Standing.{put_stands, others_stay}
 
 -- 1 where the ids are of one place
 once : NodeId → NodeId → ℕ
 once id other = cond (same_place id other) 1 0
 
-pub times : NodeId → List NodeId → ℕ
-unfolding once
-times id ids = sum_by (once id) ids
-
-abbrev pub live : Option Node → ℕ
-live None = 0
-live (Some node) = 1
-
--- Each live id is met once among these, and no other.
-abbrev pub MeetsLive : (NodeId → Option Node) → List NodeId → Type 0
-MeetsLive nodes ids = (id : NodeId) → times id ids ≡ live (nodes id)
-
 pub times_append : (id : NodeId) (xs ys : List NodeId) → times id (xs ++ ys) ≡ times id xs + times id ys
-unfolding times
+unfolding once
 times_append id xs ys = sum_by-append (once id) xs ys
 
 times_cons : (id x : NodeId) (xs : List NodeId) → times id (x ∷ xs) ≡ once id x + times id xs
-unfolding times
+unfolding once
 times_cons id x xs = sum_by-cons (once id) x xs
 
 same_once : (id x : NodeId) → id ≡ x → once id x ≡ 1
@@ -94,7 +83,7 @@ contains_later x id xs (i, inside, at) = (suc i, omega arith, at)
 
 -- An id that is met is among them.
 pub met_among : (id : NodeId) (ids : List NodeId) → 1 ≤ times id ids → Contains ids id
-unfolding times
+unfolding once
 met_among id [] least = absurd (omega arith)
 met_among id (x ∷ xs) least = elim (tells id x) [
   | inl same ↦ (0, omega arith, sym same)

@@ -1,4 +1,6 @@
+pub mod AddedLeaves
 pub mod Builds
+pub mod CutSteps
 pub mod Descents
 pub mod EmptyTree
 pub mod FrontRates

@@ -18,21 +18,8 @@ use Rattle.palm_arena.specs.declared.place.Place.TheVariants.{Holds}
 use Rattle.palm_arena.specs.declared.shape.Shape.{Shape}
 use Rattle.palm_arena.proofs.Standing.{put_stands}
 use Rattle.palm_tree.proofs.NewNodes.{Extends, put_extends, first_child, children_kept, reads_kept, ids_kept}
-use Rattle.palm_tree.proofs.IdCounts.{times, live, MeetsLive, times_append, put_meets, distinct_ids, met_among, live_most, live_some}
-
-abbrev pub piece_lows : List Piece → List ℕ
-piece_lows pieces = map (λ piece. piece.low) pieces
-
-abbrev pub piece_ids : List Piece → List NodeId
-piece_ids pieces = map (λ piece. piece.id) pieces
-
--- The pieces read as these children.
-abbrev pub Read : {T : Type 0} → (NodeId → Option T) → List Piece → List (ℕ × T) → Type 0
-Read read pieces children = children_at read (piece_lows pieces) (piece_ids pieces) ≡ Some children
-
--- The ids of pieces and those under them.
-abbrev pub ids_below : (NodeId → Option Node) → ℕ → List Piece → List NodeId
-ids_below nodes n pieces = flat_map (ids_under nodes n) (piece_ids pieces)
+use Rattle.palm_tree.specs.Levels.{piece_lows, piece_ids, ReadAs, ids_below, times, live, MeetsLive, IsLevel}
+use Rattle.palm_tree.proofs.IdCounts.{put_meets, distinct_ids, met_among, live_most, live_some}
 
 -- ---- lists of pieces
 
@@ -41,7 +28,7 @@ both_read : {T : Type 0} (low : ℕ) (first : Option T) (rest : Option (List (�
 both_read low first rest child later at others = ap (λ f. with_child low f rest) at ∙ ap (with_child low (Some child)) others
 
 pub read_add : {T : Type 0} (read : NodeId → Option T) (pieces : List Piece) (children : List (ℕ × T)) (piece : Piece) (child : T)
-    → Read read pieces children → read piece.id ≡ Some child → Read read (pieces ++ piece ∷ []) (children ++ (piece.low, child) ∷ [])
+    → ReadAs read pieces children → read piece.id ≡ Some child → ReadAs read (pieces ++ piece ∷ []) (children ++ (piece.low, child) ∷ [])
 read_add read [] [] piece child e at = rw at refl
 read_add read [] (first ∷ children) piece child e at = absurd cc
 read_add {T} read (first ∷ pieces) children piece child e at =
@@ -49,14 +36,14 @@ read_add {T} read (first ∷ pieces) children piece child e at =
     both_read first.low _ _ parts.0 (parts.1 ++ (piece.low, child) ∷ []) parts.2 (read_add read pieces parts.1 piece child parts.3 at)
     ∙ ap (λ (cs : List (ℕ × T)). Some (cs ++ (piece.low, child) ∷ [])) (sym parts.4)
 
-pub read_length : {T : Type 0} (read : NodeId → Option T) (pieces : List Piece) (children : List (ℕ × T)) → Read read pieces children → length pieces ≡ length children
+pub read_length : {T : Type 0} (read : NodeId → Option T) (pieces : List Piece) (children : List (ℕ × T)) → ReadAs read pieces children → length pieces ≡ length children
 read_length read [] [] e = refl
 read_length read [] (first ∷ children) e = absurd cc
 read_length read (first ∷ pieces) children e =
     let parts = first_child first.low (read first.id) (children_at read (piece_lows pieces) (piece_ids pieces)) children e in
     rw parts.4 (ap suc (read_length read pieces parts.1 parts.3))
 
-pub read_lows : {T : Type 0} (read : NodeId → Option T) (pieces : List Piece) (children : List (ℕ × T)) → Read read pieces children
+pub read_lows : {T : Type 0} (read : NodeId → Option T) (pieces : List Piece) (children : List (ℕ × T)) → ReadAs read pieces children
     → piece_lows pieces ≡ map (λ child. child.0) children
 read_lows read [] [] e = refl
 read_lows read [] (first ∷ children) e = absurd cc
@@ -64,8 +51,8 @@ read_lows read (first ∷ pieces) children e =
     let parts = first_child first.low (read first.id) (children_at read (piece_lows pieces) (piece_ids pieces)) children e in
     rw parts.4 (ap (λ (lows : List ℕ). first.low ∷ lows) (read_lows read pieces parts.1 parts.3))
 
-pub read_take : {T : Type 0} (read : NodeId → Option T) (k : ℕ) (pieces : List Piece) (children : List (ℕ × T)) → Read read pieces children
-    → Read read (take k pieces) (take k children)
+pub read_take : {T : Type 0} (read : NodeId → Option T) (k : ℕ) (pieces : List Piece) (children : List (ℕ × T)) → ReadAs read pieces children
+    → ReadAs read (take k pieces) (take k children)
 read_take read zero pieces children e = refl
 read_take read (suc k) [] [] e = refl
 read_take read (suc k) [] (first ∷ children) e = absurd cc
@@ -74,8 +61,8 @@ read_take {T} read (suc k) (first ∷ pieces) children e =
     both_read first.low _ _ parts.0 (take k parts.1) parts.2 (read_take read k pieces parts.1 parts.3)
     ∙ ap (λ (cs : List (ℕ × T)). Some (take (suc k) cs)) (sym parts.4)
 
-pub read_drop : {T : Type 0} (read : NodeId → Option T) (k : ℕ) (pieces : List Piece) (children : List (ℕ × T)) → Read read pieces children
-    → Read read (drop k pieces) (drop k children)
+pub read_drop : {T : Type 0} (read : NodeId → Option T) (k : ℕ) (pieces : List Piece) (children : List (ℕ × T)) → ReadAs read pieces children
+    → ReadAs read (drop k pieces) (drop k children)
 read_drop read zero pieces children e = e
 read_drop read (suc k) [] [] e = refl
 read_drop read (suc k) [] (first ∷ children) e = absurd cc
@@ -84,7 +71,7 @@ read_drop read (suc k) (first ∷ pieces) children e =
     rw parts.4 (read_drop read k pieces parts.1 parts.3)
 
 -- A node of these pieces' ids, with their lows between them, has their children, the first at the low 0.
-read_over : {T : Type 0} (read : NodeId → Option T) (pieces : List Piece) (children : List (ℕ × T)) → 1 ≤ length pieces → Read read pieces children
+read_over : {T : Type 0} (read : NodeId → Option T) (pieces : List Piece) (children : List (ℕ × T)) → 1 ≤ length pieces → ReadAs read pieces children
     → children_at read (0 ∷ piece_lows (drop 1 pieces)) (piece_ids pieces) ≡ Some (node_over children)
 read_over read [] children some e = absurd (omega arith)
 read_over {T} read (first ∷ pieces) children some e =
@@ -113,11 +100,6 @@ below_split nodes n k pieces =
 
 -- ---- a whole level
 
--- The pieces read as these children, and each live id stands under them once.
-pub record IsLevel (nodes : NodeId → Option Node) (n : ℕ) (pieces : List Piece) (children : List (ℕ × Subtree n)) : Type 0 where
-  pub read : Read (reads nodes n) pieces children
-  pub met : MeetsLive nodes (ids_below nodes n pieces)
-
 pub leaf_added : (places : List Place) (new : NodeId) (low : ℕ) (rows : List Row) (pieces : List Piece) (children : List (ℕ × List Row))
     → IsVacant places new → IsLevel (map_of places) zero pieces children
     → IsLevel (map_of (with_place places new (Holds (Leaf rows)))) zero (pieces ++ record { low = low; id = new } ∷ []) (children ++ (low, rows) ∷ [])
@@ -139,8 +121,8 @@ leaf_added places new low rows pieces children vacant level =
 
 -- Some pieces have nodes over them, one level up, and others not yet.
 pub record IsBetween (nodes : NodeId → Option Node) (n : ℕ) (done : List Piece) (made : List (ℕ × Subtree (suc n))) (rest : List Piece) (left : List (ℕ × Subtree n)) : Type 0 where
-  pub above : Read (reads nodes (suc n)) done made
-  pub below : Read (reads nodes n) rest left
+  pub above : ReadAs (reads nodes (suc n)) done made
+  pub below : ReadAs (reads nodes n) rest left
   pub met : MeetsLive nodes (ids_below nodes (suc n) done ++ ids_below nodes n rest)
 
 pub node_added : (places : List Place) (n : ℕ) (new : NodeId) (low : ℕ) (node : InnerNode) (k : ℕ)

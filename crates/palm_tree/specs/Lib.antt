@@ -1,3 +1,4 @@
+pub mod Levels
 pub mod Routes
 pub mod TreeCode
 pub mod TreeValue

@@ -1,6 +1,7 @@
-//! The table's tree: a lawful B+ tree, and how its rows are looked up.
+//! The table's tree: a lawful B+ tree, how it is built from sorted rows, and how its rows are looked up.
 #![tactic(auto)]
 
+mod build;
 mod tree;
 
 pub use tree::Tree;
