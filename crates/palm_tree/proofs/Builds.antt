@@ -47,7 +47,7 @@ node_itself (suc n) low l h children sound =
     let own = children_themselves n (λ low l h node s. node_itself n low l h node s) l h children sound.2 in
     rw own (inner_itself n low children sound.0.0 sound.0.1 sound.1)
 
-top_few : (n : ℕ) (pieces : List (ℕ × Subtree n)) → 2 ≤ length pieces → length pieces ≤ MOST_CHILDREN → top n pieces ≡ (suc n, node_over pieces)
+pub top_few : (n : ℕ) (pieces : List (ℕ × Subtree n)) → 2 ≤ length pieces → length pieces ≤ MOST_CHILDREN → top n pieces ≡ (suc n, node_over pieces)
 unfolding top top_in
 top_few n [] some few = absurd (omega arith)
 top_few n (piece ∷ []) some few = absurd (omega arith)

@@ -1,9 +1,11 @@
 pub mod AddedLeaves
+pub mod AddedNodes
 pub mod Builds
 pub mod CutSteps
 pub mod Descents
 pub mod EmptyTree
 pub mod FrontRates
+pub mod GrownTrees
 pub mod IdCounts
 pub mod NewNodes
 pub mod PieceReads

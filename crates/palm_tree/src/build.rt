@@ -114,3 +114,96 @@ fn inner_over(pieces: &[Piece]) -> Inner
     list_parts(pieces, &mut ids, &mut lows);
     Inner::from_children(&ids, &lows[1..])
 }
+
+// Puts the nodes into an arena that stand over the pieces of a level, and lists them.
+fn add_level<L: Ledger>(
+    alloc: Global,
+    level: &[Piece],
+    arena: &mut Arena,
+    steps: &mut Steps<L>,
+) -> Result<PieceList, NoMemory>
+    requires rising { Rise (piece_lows (drop 1 level.now)) }
+    requires under_way { IsSome arena.old.begun }
+    requires none_lent { NoneLent arena.old.places }
+    ensures level { IfOk result (λ made. IsRaised arena.old.places level.now arena.new.places made) }
+    ensures under_way { OnOk result (IsSome arena.new.begun) }
+    ensures none_lent { OnOk result (NoneLent arena.new.places) }
+{
+    let mut made = PieceList::new(alloc);
+    let mut rest = level;
+    for i in 0..pieces(MOST_CHILDREN, level.len()) {
+        let (part, later) = rest.split_at(piece_size(MOST_CHILDREN, level.len(), i));
+        let low = next_low(&made, first_piece_low(part));
+        let id = arena.take(Node::Inner(inner_over(part)), steps)?;
+        made.push(Piece { low, id })?;
+        rest = later;
+    }
+    Ok(made)
+}
+
+// Puts the nodes into an arena of the tree that one batch of Sets of rows leaves of the empty tree, and gives its shape.
+fn put_nodes<L: Ledger>(
+    alloc: Global,
+    rows: &[Row],
+    arena: &mut Arena,
+    steps: &mut Steps<L>,
+) -> Result<Shape, NoMemory>
+    requires some { 0 < length rows.now }
+    requires table { IsTable rows.now }
+    requires none { arena.old.places ≡ [] }
+    requires under_way { IsSome arena.old.begun }
+    ensures whole { IfOk result (λ shape. IsWhole (map_of arena.new.places) shape) }
+    ensures tree { IfOk result (λ shape. tree_of arena.new.places shape ≡ top zero (leaves_of 0 rows.now)) }
+    ensures under_way { OnOk result (IsSome arena.new.begun) }
+    ensures none_lent { OnOk result (NoneLent arena.new.places) }
+    ensures prefixes { OnOk result (PrefixesHold rows.now) }
+{
+    let mut level = add_leaves(alloc, rows, arena, steps)?;
+    let mut levels = 1;
+    while level.len() > 1 {
+        level = add_level(alloc, level.as_slice(), arena, steps)?;
+        levels += 1;
+    }
+    let root = level.get(0).id;
+    Ok(Shape { root, levels })
+}
+
+// An arena of the tree that one batch of Sets of rows leaves of the empty tree, made with a counter of its own.
+fn grow<L: Ledger>(alloc: Global, blank: Blank, rows: &[Row]) -> Result<(Arena, Shape), NoMemory>
+    requires name { blank.name ≡ L.name }
+    requires parts { blank.parts ≡ L.parts }
+    requires blank { 0 < blank.parts }
+    requires some { 0 < length rows.now }
+    requires table { IsTable rows.now }
+    ensures idle { IfOk result (λ (arena, shape). arena.begun ≡ None) }
+    ensures none_lent { IfOk result (λ (arena, shape). NoneLent arena.places) }
+    ensures whole { IfOk result (λ (arena, shape). IsWhole (map_of arena.places) shape) }
+    ensures tree { IfOk result (λ (arena, shape). tree_of arena.places shape ≡ top zero (leaves_of 0 rows.now)) }
+    ensures prefixes { OnOk result (PrefixesHold rows.now) }
+{
+    let mut steps = Steps::<L>::new(blank);
+    let mut arena = Arena::new(alloc)?;
+    arena.begin();
+    let shape = put_nodes(alloc, rows, &mut arena, &mut steps)?;
+    arena.commit();
+    Ok((arena, shape))
+}
+
+impl Tree {
+    /// The tree that one batch of Sets of these rows leaves of the empty tree. It is built from its leaves up, in time that
+    /// grows as the rows do. `NoMemory` where room was refused.
+    pub fn build(alloc: Global, rows: &RowList) -> Result<Tree, NoMemory>
+        requires { IsTable rows.now }
+        ensures { IfOk result (λ tree. tree ≡ batch_tree (zero, []) (map set_of rows.now)) }
+    {
+        if rows.is_empty() {
+            return Tree::new(alloc);
+        }
+        let (arena, shape) = grow::<Brand>(alloc, Blank::new(1), rows.as_slice())?;
+        Ok(Tree {
+            arena,
+            shape,
+            rows: rows.len() as u64,
+        })
+    }
+}
