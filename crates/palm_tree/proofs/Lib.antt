@@ -1,6 +1,7 @@
 pub mod AddedLeaves
 pub mod AddedNodes
 pub mod Builds
+pub mod BuiltTrees
 pub mod CutSteps
 pub mod Descents
 pub mod EmptyTree
