@@ -19,7 +19,7 @@ use Rattle.palm_node.specs.declared.node.Node.TheVariants.{Leaf}
 use Rattle.palm_arena.specs.ArenaState.{with_place, IsVacant, NoneLent}
 use Rattle.palm_arena.specs.Reads.{map_of, reads}
 use Rattle.palm_arena.specs.declared.place.Place.{Place}
-use Rattle.palm_arena.specs.declared.place.Place.TheVariants.{Lent, Holds}
+use Rattle.palm_arena.specs.declared.place.Place.TheVariants.{Holds}
 use Rattle.palm_arena.proofs.Standing.{none_lent_after_put}
 use Rattle.palm_tree.specs.Levels.{IsLevel}
 use Rattle.palm_tree.proofs.PieceReads.{read_length, leaf_added}
@@ -70,11 +70,11 @@ leaves_next rows i places rest part leaves size low id far less sized is own lea
     let as_part : part ≡ take (piece_size MOST_LEAF_ROWS (length rows) i) rest = is ∙ ap (λ k. take k rest) sized in
     let as_low : next_own row_key far.children (take (piece_size MOST_LEAF_ROWS (length rows) i) rest) ≡ low =
     ap (λ (k : ℕ). cond (k == 0) 0 (first_low row_key (take (piece_size MOST_LEAF_ROWS (length rows) i) rest)))
-      (sym (read_length (reads (map_of places) zero) leaves far.children far.level.read))
+    (sym (read_length (reads (map_of places) zero) leaves far.children far.level.read))
     ∙ ap (λ (p : List Row). cond (length leaves == 0) 0 (first_low row_key p)) (sym as_part) ∙ sym own in
     let front = nodes_next row_key (λ part. part) far.children (take (piece_size MOST_LEAF_ROWS (length rows) i) rest)
-        (pieces_left MOST_LEAF_ROWS (length rows) (i + 1) (drop (piece_size MOST_LEAF_ROWS (length rows) i) rest)) (leaves_of 0 rows)
-        (ap (λ (parts : List (List Row)). far.children ++ later_nodes row_key (λ part. part) far.children parts) (sym cut_off) ∙ far.front) in
+    (pieces_left MOST_LEAF_ROWS (length rows) (i + 1) (drop (piece_size MOST_LEAF_ROWS (length rows) i) rest)) (leaves_of 0 rows)
+    (ap (λ (parts : List (List Row)). far.children ++ later_nodes row_key (λ part. part) far.children parts) (sym cut_off) ∙ far.front) in
     let child : ℕ × List Row = (low, part) in
     let same : ℕ × List Row = (next_own row_key far.children (take (piece_size MOST_LEAF_ROWS (length rows) i) rest), take (piece_size MOST_LEAF_ROWS (length rows) i) rest) in
     let as_child : same ≡ child = ap (λ (l : ℕ). (l, take (piece_size MOST_LEAF_ROWS (length rows) i) rest)) as_low ∙ ap (λ (p : List Row). (low, p)) (sym as_part) in
@@ -112,5 +112,5 @@ pub leaves_last : (rows : List Row) (i : ℕ) (places : List Place) (rest : List
 leaves_last rows i places rest leaves far all =
     let none = left_last MOST_LEAF_ROWS (length rows) i rest all in
     let same : far.children ≡ leaves_of 0 rows = nodes_last row_key (λ part. part) far.children (leaves_of 0 rows)
-        (ap (λ (parts : List (List Row)). far.children ++ later_nodes row_key (λ part. part) far.children parts) (sym none) ∙ far.front) in
+    (ap (λ (parts : List (List Row)). far.children ++ later_nodes row_key (λ part. part) far.children parts) (sym none) ∙ far.front) in
     (subst (IsLevel (map_of places) zero leaves) same far.level, far.prefixes (empty_rest rest (cut_last MOST_LEAF_ROWS (length rows) i rest all far.cut)))

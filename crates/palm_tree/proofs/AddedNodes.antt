@@ -129,7 +129,7 @@ read_next level i places rest made size low node id puts vacant n children far =
     ∙ ap (λ (k : ℕ). cond (length made == 0) 0 k) (sym (first_same read (take size rest) part (read_take read size rest far.left far.between.below)))
     ∙ sym puts.own in
     let front = nodes_next low_of node_over far.nodes part parts (nodes_over 0 children)
-        (ap (λ (ps : List (List (ℕ × Subtree n))). far.nodes ++ later_nodes low_of node_over far.nodes ps) (sym cut_off) ∙ far.front) in
+    (ap (λ (ps : List (List (ℕ × Subtree n))). far.nodes ++ later_nodes low_of node_over far.nodes ps) (sym cut_off) ∙ far.front) in
     record {
       nodes = far.nodes ++ (low, node_over part) ∷ [];
       left = drop size far.left;
@@ -179,6 +179,6 @@ nodes_all level old i places rest made far all n children is =
     let read = far.read n children is in
     let none = left_last MOST_CHILDREN (length level) i read.left all in
     let same : read.nodes ≡ nodes_over 0 children = nodes_last low_of node_over read.nodes (nodes_over 0 children)
-        (ap (λ (parts : List (List (ℕ × Subtree n))). read.nodes ++ later_nodes low_of node_over read.nodes parts) (sym none) ∙ read.front) in
+    (ap (λ (parts : List (List (ℕ × Subtree n))). read.nodes ++ later_nodes low_of node_over read.nodes parts) (sym none) ∙ read.front) in
     subst (IsLevel (map_of places) (suc n) made) same
     (between_last (map_of places) n made read.nodes rest read.left (cut_last MOST_CHILDREN (length level) i rest all far.cut) read.between)

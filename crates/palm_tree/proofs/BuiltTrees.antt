@@ -1,6 +1,6 @@
 -- An arena of the tree over a table's leaves holds the tree that one batch of its rows leaves.
-use Rattle.std.proofs.Common.{◌≡◌, ℕ, zero, ◌≤◌, List, [], ◌∷◌, length, map, None, refl, sym, ap, subst, arith, ◌∙◌}
-use Rattle.palm_base.specs.Table.{IsTable, after_all}
+use Rattle.std.proofs.Common.{◌≡◌, ℕ, zero, List, [], ◌∷◌, length, map, None, sym, ap, subst, arith, ◌∙◌}
+use Rattle.palm_base.specs.Table.{IsTable}
 use Rattle.palm_base.specs.Tree.{Tree, rows_of}
 use Rattle.palm_base.specs.Pass.{leaves_of, top, set_of, batch_tree}
 use Rattle.palm_base.specs.Lawful.{IsLawful}

@@ -1,5 +1,5 @@
 -- A list cut from its front on, a piece at a time.
-use Rattle.std.proofs.Common.{◌≡◌, ℕ, zero, suc, ◌+◌, ◌-◌, ◌*◌, ◌/◌, ◌%◌, ◌<◌, ◌≤◌, false, cond, List, [], ◌∷◌, ◌++◌, length, take, drop, map, refl, sym, ap, subst, arith, ◌∙◌, ◌⊎◌, inl, inr, length-take, length-drop}
+use Rattle.std.proofs.Common.{◌≡◌, ℕ, zero, suc, ◌+◌, ◌-◌, ◌*◌, ◌/◌, ◌%◌, ◌<◌, ◌≤◌, false, cond, List, [], ◌∷◌, ◌++◌, length, take, drop, map, refl, sym, ap, subst, arith, ◌∙◌, ◌⊎◌, inl, inr, length-drop}
 use Rattle.std.specs.Prelude.{nat_lt, ◌==◌}
 use Rattle.std.specs.List.{AllByRecursion}
 use Rattle.std.proofs.lemmas.Bool.{cases_lt, lt-ltb, le-ltb}
@@ -8,7 +8,7 @@ use Rattle.std.proofs.lemmas.List.{append-nil}
 use Rattle.palm_base.specs.Cut.{piece_count, piece_size, even_pieces, cut}
 use Rattle.palm_base.specs.Pass.{first_low, with_lows}
 use Rattle.palm_base.specs.Lawful.{HasFromTo}
-use Rattle.palm_base.proofs.Every.{every_at, every_weaker}
+use Rattle.palm_base.proofs.Every.{every_at}
 use Rattle.palm_base.proofs.Cuts.{cut_none, few_are_one_piece, pieces_are_wide}
 
 -- The pieces that are left, where the first i of the pieces of t items are cut off.
@@ -154,8 +154,12 @@ later_same : {X Y : Type 0} (low : X → ℕ) (node : List X → Y) (made : List
 later_same low node [] child parts = refl
 later_same low node (first ∷ made) child parts = refl
 
+-- Where a low is that of the next node, its own may be another name for one.
+pub own_low : (low first own count : ℕ) → low ≡ cond (count == 0) 0 first → first ≡ own → low ≡ cond (count == 0) 0 own
+own_low low first own count is same = is ∙ ap (λ k. cond (count == 0) 0 k) same
+
 some_made : (n : ℕ) → (suc n == 0) ≡ false
-some_made n = elim (eqb_tells (suc n) 0) [ | inl none ↦ absurd (omega (arith, none.1)) | inr some ↦ some.0 ]
+some_made n = elim (eqb_tells (suc n) 0) [ inl none ↦ absurd (omega (arith, none.1)) | inr some ↦ some.0 ]
 
 later_cons : {X Y : Type 0} (low : X → ℕ) (node : List X → Y) (made : List (ℕ × Y)) (part : List X) (parts : List (List X))
     → later_nodes low node made (part ∷ parts) ≡ (next_own low made part, node part) ∷ map (λ later. (first_low low later, node later)) parts

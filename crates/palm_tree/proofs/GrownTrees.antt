@@ -1,29 +1,28 @@
 -- A tree built up level by level, to its root.
-use Rattle.std.proofs.Common.{◌≡◌, ℕ, zero, suc, ◌+◌, ◌-◌, ◌*◌, ◌^◌, ◌<◌, ◌≤◌, List, [], ◌∷◌, ◌++◌, length, map, drop, Some, slice_get, refl, sym, ap, subst, arith, ◌∙◌, ◌⊎◌, inl, inr}
+use Rattle.std.proofs.Common.{◌≡◌, ℕ, zero, suc, ◌+◌, ◌*◌, ◌^◌, ◌<◌, ◌≤◌, List, [], ◌∷◌, length, map, drop, Some, slice_get, refl, sym, ap, subst, arith, ◌∙◌, ◌⊎◌, inl, inr}
 use Rattle.std.specs.List.{flat_map, AllByRecursion}
 use Rattle.std.proofs.lemmas.Bool.{cases_lt}
-use Rattle.std.proofs.Math.Nat.{mul-le-mul_right, mul-le-mul_left, pow-suc}
+use Rattle.std.proofs.Math.Nat.{mul-le-mul_right, pow-suc}
 use Rattle.std.proofs.Math.Pow.{pow_mono}
 use Rattle.palm_base.specs.Table.{row_key, IsTable}
 use Rattle.palm_base.specs.Cut.{piece_count, cut}
 use Rattle.palm_base.specs.Tree.{Subtree, Tree}
 use Rattle.palm_base.specs.Pass.{with_lows, leaves_of, node_over, nodes_over, top, top_in}
-use Rattle.palm_base.specs.Lawful.{Rising, HasFromTo, Sound, InOrder}
+use Rattle.palm_base.specs.Lawful.{Rising, InOrder}
 use Rattle.palm_base.specs.declared.bounds.TheConstants.{LEAST_LEAF_ROWS, MOST_LEAF_ROWS, LEAST_CHILDREN, MOST_CHILDREN}
 use Rattle.palm_base.specs.declared.row.Row.{Row}
 use Rattle.palm_base.proofs.Cuts.{few_are_one_piece, pieces_join, pieces_are_counted}
 use Rattle.palm_base.proofs.CutParts.{cut_sizes}
 use Rattle.palm_base.proofs.Every.{every_weaker}
 use Rattle.palm_base.proofs.RisingTables.{key_bound, table_rises}
-use Rattle.palm_base.proofs.SoundNodes.{low_of, leaves_in_order, nodes_in_order, in_order_proper, length_with_lows}
+use Rattle.palm_base.proofs.SoundNodes.{low_of, leaves_in_order, nodes_in_order, length_with_lows}
 use Rattle.palm_base.proofs.Tops.{top_of_many}
-use Rattle.palm_node.specs.declared.id.NodeId.{NodeId}
 use Rattle.palm_node.specs.declared.id.Piece.{Piece}
 use Rattle.palm_arena.specs.ArenaState.{NoneLent}
 use Rattle.palm_arena.specs.Reads.{map_of, reads, IsWhole}
 use Rattle.palm_arena.specs.declared.place.Place.{Place}
 use Rattle.palm_arena.specs.declared.shape.Shape.{Shape}
-use Rattle.palm_tree.specs.Levels.{piece_lows, ReadAs, IsLevel, IsRaised, Rise}
+use Rattle.palm_tree.specs.Levels.{piece_lows, IsLevel, IsRaised, Rise}
 use Rattle.palm_tree.specs.TreeValue.{tree_of}
 use Rattle.palm_tree.proofs.Builds.{top_few}
 use Rattle.palm_tree.proofs.PieceReads.{read_length, read_lows, one_reads, level_whole}
@@ -63,8 +62,11 @@ nodes_orderly n children two (inr (h, order)) = by (cases_lt MOST_CHILDREN (leng
   where
     by : (MOST_CHILDREN < length children) ⊎ (length children ≤ MOST_CHILDREN) → IsOrderly (suc n) (nodes_over 0 children)
     by (inl many) =
-        inr (h, nodes_in_order n 0 0 h (cut MOST_CHILDREN children) (cut_sizes LEAST_CHILDREN children (omega arith) many)
-          (rw (pieces_join MOST_CHILDREN children (omega arith)) order))
+        inr (
+          h,
+          nodes_in_order n 0 0 h (cut MOST_CHILDREN children) (cut_sizes LEAST_CHILDREN children (omega arith) many)
+              (rw (pieces_join MOST_CHILDREN children (omega arith)) order),
+        )
     by (inr few) = inl (omega (arith, few, nodes_count n children))
 
 -- One child alone is the root.
@@ -209,5 +211,5 @@ grown_last rows places levels level piece shape far one at is = by level far.chi
         let as_shape : shape ≡ record { root = root.id; levels = far.n + 1 } = is ∙ rw (own, far.counted) refl in
         let tree : Tree = (far.n, child.1) in
         let value : tree_of places shape ≡ tree = tree_reads places shape tree
-            (rw as_shape (omega arith, one_reads (map_of places) far.n root child level)) in
+        (rw as_shape (omega arith, one_reads (map_of places) far.n root child level)) in
         (level_whole (map_of places) far.n root child shape as_shape level, value ∙ sym (top_alone far.n child) ∙ same)

@@ -1,5 +1,5 @@
 -- A node put at a vacant id leaves what other ids read as, and which ids stand under them.
-use Rattle.std.proofs.Common.{◌≡◌, ℕ, zero, suc, List, [], ◌∷◌, ◌++◌, map, Option, Some, None, refl, sym, ap, ◌∙◌}
+use Rattle.std.proofs.Common.{◌≡◌, ℕ, zero, suc, List, [], ◌∷◌, Option, Some, None, refl, sym, ap, ◌∙◌}
 use mathlib.Core.Logic.{dite}
 use native.Mathlib.Decide.{ℕ_discrete}
 use Rattle.std.specs.List.{flat_map}
@@ -8,8 +8,8 @@ use Rattle.palm_node.specs.InnerNode.{InnerNode}
 use Rattle.palm_node.specs.declared.id.NodeId.{NodeId}
 use Rattle.palm_node.specs.declared.node.Node.{Node}
 use Rattle.palm_node.specs.declared.node.Node.TheVariants.{Leaf, Inner}
-use Rattle.palm_arena.specs.ArenaState.{place_at, node_in, with_place, IsVacant}
-use Rattle.palm_arena.specs.Reads.{map_of, with_child, children_at, leaf_in, inner_in, children_in, reads, child_ids, ids_under}
+use Rattle.palm_arena.specs.ArenaState.{node_in, with_place, IsVacant}
+use Rattle.palm_arena.specs.Reads.{map_of, with_child, children_at, leaf_in, inner_in, children_in, reads, ids_under}
 use Rattle.palm_arena.specs.declared.place.Place.{Place}
 use Rattle.palm_arena.specs.declared.place.Place.TheVariants.{Holds}
 use Rattle.palm_arena.proofs.Keeping.{same_id}

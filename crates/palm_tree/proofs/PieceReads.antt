@@ -1,9 +1,9 @@
 -- Pieces of one level, as a tree is built up: what they read as, and that each live id stands under them once.
-use Rattle.std.proofs.Common.{◌≡◌, ℕ, zero, suc, ◌+◌, ◌-◌, ◌<◌, ◌≤◌, List, [], ◌∷◌, ◌++◌, length, map, take, drop, Option, Some, None, IsSome, refl, sym, ap, subst, arith, ◌∙◌, append_assoc}
-use Rattle.std.specs.List.{flat_map, Contains, IsDistinct}
+use Rattle.std.proofs.Common.{◌≡◌, ℕ, zero, suc, ◌+◌, ◌-◌, ◌≤◌, List, [], ◌∷◌, ◌++◌, length, map, take, drop, Option, Some, refl, sym, ap, subst, arith, ◌∙◌, append_assoc}
+use Rattle.std.specs.List.{flat_map}
 use Rattle.std.proofs.lemmas.List.{append-nil}
 use Rattle.std.proofs.lemmas.List.Concat.{flat_map-append}
-use Rattle.palm_base.specs.Tree.{Subtree, Tree}
+use Rattle.palm_base.specs.Tree.{Subtree}
 use Rattle.palm_base.specs.Pass.{node_over}
 use Rattle.palm_base.specs.declared.row.Row.{Row}
 use Rattle.palm_node.specs.InnerNode.{InnerNode}
@@ -12,13 +12,13 @@ use Rattle.palm_node.specs.declared.id.Piece.{Piece}
 use Rattle.palm_node.specs.declared.node.Node.{Node}
 use Rattle.palm_node.specs.declared.node.Node.TheVariants.{Leaf, Inner}
 use Rattle.palm_arena.specs.ArenaState.{node_in, with_place, IsVacant}
-use Rattle.palm_arena.specs.Reads.{map_of, with_child, children_at, leaf_in, inner_in, children_in, reads, child_ids, ids_under, ids_of, same_place, IsWhole}
+use Rattle.palm_arena.specs.Reads.{map_of, with_child, children_at, leaf_in, inner_in, reads, child_ids, ids_under, ids_of, IsWhole}
 use Rattle.palm_arena.specs.declared.place.Place.{Place}
 use Rattle.palm_arena.specs.declared.place.Place.TheVariants.{Holds}
 use Rattle.palm_arena.specs.declared.shape.Shape.{Shape}
 use Rattle.palm_arena.proofs.Standing.{put_stands}
-use Rattle.palm_tree.proofs.NewNodes.{Extends, put_extends, first_child, children_kept, reads_kept, ids_kept}
-use Rattle.palm_tree.specs.Levels.{piece_lows, piece_ids, ReadAs, ids_below, times, live, MeetsLive, IsLevel}
+use Rattle.palm_tree.proofs.NewNodes.{put_extends, first_child, children_kept, reads_kept, ids_kept}
+use Rattle.palm_tree.specs.Levels.{piece_lows, piece_ids, ReadAs, ids_below, MeetsLive, IsLevel}
 use Rattle.palm_tree.proofs.IdCounts.{put_meets, distinct_ids, met_among, live_most, live_some}
 
 -- ---- lists of pieces
@@ -131,7 +131,7 @@ pub node_added : (places : List Place) (n : ℕ) (new : NodeId) (low : ℕ) (nod
     → node.children ≡ piece_ids (take k rest) → node.separators ≡ piece_lows (drop 1 (take k rest))
     → IsBetween (map_of places) n done made rest left
     → IsBetween (map_of (with_place places new (Holds (Inner node)))) n (done ++ record { low = low; id = new } ∷ []) (made ++ (low, node_over (take k left)) ∷ [])
-        (drop k rest) (drop k left)
+    (drop k rest) (drop k left)
 node_added places n new low node k done made rest left vacant some children separators between =
     let old = map_of places in
     let now = map_of (with_place places new (Holds (Inner node))) in
@@ -144,7 +144,7 @@ node_added places n new low node k done made rest left vacant some children sepa
     let part : List NodeId = ids_below now n (take k rest) in
     let later : List NodeId = ids_below now n (drop k rest) in
     let front : List NodeId = ids_below now (suc n) done in
-    let own : ids_under now (suc n) new ≡ new ∷ part = 
+    let own : ids_under now (suc n) new ≡ new ∷ part =
     ap (λ at. new ∷ flat_map (ids_under now n) (child_ids (inner_in at))) stands ∙ ap (λ (ids : List NodeId). new ∷ flat_map (ids_under now n) ids) children in
     let same_above : front ≡ ids_below old (suc n) done = ids_kept old now kept (suc n) (piece_lows done) (piece_ids done) made between.above in
     let same_below : ids_below now n rest ≡ ids_below old n rest = ids_kept old now kept n (piece_lows rest) (piece_ids rest) left between.below in

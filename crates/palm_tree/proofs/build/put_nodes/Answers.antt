@@ -1,6 +1,4 @@
-use Rattle.std.proofs.Common.{sym, ap, subst, arith, ◌∙◌, ◌≡◌, ◌≤◌, length, drop, Some, slice_get, refl}
-use Rattle.palm_node.specs.declared.id.Piece.{Piece}
-use Rattle.palm_tree.specs.Levels.{piece_lows, Rise}
+use Rattle.std.proofs.Common.{sym, arith, refl}
 use Rattle.palm_tree.proofs.GrownTrees.{grown_first, grown_next, grown_rises, levels_fit, half_made, grown_last}
 use Rattle.palm_tree.proofs.build.put_nodes.Goals as goal
 
@@ -20,13 +18,13 @@ add_level-requires-clause-rising g c =
 pub overflow_add-levels : goal.overflow_add-levels
 overflow_add-levels g c =
     let fit = levels_fit c.args.rows.now c.loop-alloc.arena.places c.loop-alloc.levels c.loop-alloc.level c.loop-alloc.invariant.far (omega (arith, c.len.ensures, c.loop-alloc-test.true))
-        (omega (arith, c.len.ensures, c.len.type_inv)) in
+    (omega (arith, c.len.ensures, c.len.type_inv)) in
     omega (arith, fit)
 
 pub loop-alloc-smaller : goal.loop-alloc-smaller
 loop-alloc-smaller g c =
     let half = half_made c.args.rows.now c.loop-alloc.arena.places c.add_level.new.arena.places c.loop-alloc.levels c.loop-alloc.level c.in_ok-level-2.level
-        c.loop-alloc.invariant.far (omega (arith, c.len.ensures, c.loop-alloc-test.true)) (rw (sym c.as_slice.ensures) c.in_ok-level-2.ensures.level) in
+    c.loop-alloc.invariant.far (omega (arith, c.len.ensures, c.loop-alloc-test.true)) (rw (sym c.as_slice.ensures) c.in_ok-level-2.ensures.level) in
     omega (arith, half)
 
 pub loop-alloc-preserved : goal.loop-alloc-preserved
@@ -41,9 +39,9 @@ loop-alloc-preserved g c = record {
 pub returns-clause-whole : goal.returns-clause-whole
 returns-clause-whole g c =
     (grown_last c.args.rows.now c.loop-alloc.arena.places c.loop-alloc.levels c.loop-alloc.level c.get.result.now _ c.loop-alloc.invariant.far
-      (omega (arith, c.len.ensures, c.loop-alloc-test.false)) c.get.ensures refl).0
+    (omega (arith, c.len.ensures, c.loop-alloc-test.false)) c.get.ensures refl).0
 
 pub returns-clause-tree : goal.returns-clause-tree
 returns-clause-tree g c =
     (grown_last c.args.rows.now c.loop-alloc.arena.places c.loop-alloc.levels c.loop-alloc.level c.get.result.now _ c.loop-alloc.invariant.far
-      (omega (arith, c.len.ensures, c.loop-alloc-test.false)) c.get.ensures refl).1
+    (omega (arith, c.len.ensures, c.loop-alloc-test.false)) c.get.ensures refl).1
