@@ -60,6 +60,13 @@ impl RowList {
         self.rows[i]
     }
 
+    /// The rows as a slice.
+    pub fn as_slice(&self) -> &[Row]
+        ensures { result.now ≡ self.now }
+    {
+        self.rows.as_slice()
+    }
+
     /// Adds a row at the end. The list is unchanged where memory is refused.
     pub fn push(&mut self, row: Row) -> Result<(), NoMemory>
         ensures ok { OnOk result (self.new ≡ self.old ++ row ∷ []) }

@@ -47,14 +47,14 @@ node_itself (suc n) low l h children sound =
     let own = children_themselves n (λ low l h node s. node_itself n low l h node s) l h children sound.2 in
     rw own (inner_itself n low children sound.0.0 sound.0.1 sound.1)
 
-top_few : (n : ℕ) (pieces : List (ℕ × Subtree n)) → 2 ≤ length pieces → length pieces ≤ MOST_CHILDREN → top n pieces ≡ (suc n, node_over pieces)
+pub top_few : (n : ℕ) (pieces : List (ℕ × Subtree n)) → 2 ≤ length pieces → length pieces ≤ MOST_CHILDREN → top n pieces ≡ (suc n, node_over pieces)
 unfolding top top_in
 top_few n [] some few = absurd (omega arith)
 top_few n (piece ∷ []) some few = absurd (omega arith)
 top_few n (piece ∷ next ∷ more) some few = rw (le-leb (length (piece ∷ next ∷ more)) MOST_CHILDREN few) refl
 
 -- The rows of a root leaf are its one piece, or no piece where there are none.
-leaf_top : (rows : List Row) → length rows ≤ MOST_LEAF_ROWS → top zero (leaves_of 0 rows) ≡ (zero, rows)
+pub leaf_top : (rows : List Row) → length rows ≤ MOST_LEAF_ROWS → top zero (leaves_of 0 rows) ≡ (zero, rows)
 unfolding top top_in
 leaf_top [] few = rw (cut_none {X = Row} MOST_LEAF_ROWS (omega arith)) refl
 leaf_top (row ∷ rows) few = rw (few_are_one_piece MOST_LEAF_ROWS (row ∷ rows) (omega arith) few) refl
@@ -85,7 +85,7 @@ all_from_none [] = tt
 all_from_none (row ∷ rows) = (omega arith, all_from_none rows)
 
 -- The root over the leaves of rising rows makes a lawful tree.
-leaves_lawful : (h : ℕ) (rows : List Row) → Rising 0 h rows → IsLawful (top zero (leaves_of 0 rows))
+pub leaves_lawful : (h : ℕ) (rows : List Row) → Rising 0 h rows → IsLawful (top zero (leaves_of 0 rows))
 leaves_lawful h rows rise =
     elim (cases_lt MOST_LEAF_ROWS (length rows)) [
       | inl many ↦

@@ -11,7 +11,7 @@ use Rattle.palm_node.specs.declared.id.NodeId.{NodeId}
 use Rattle.palm_node.specs.declared.node.Node.{Node}
 use Rattle.palm_arena.specs.Reads.{reads, inner_in, child_ids}
 use Rattle.palm_base.proofs.Appended.{append_next}
-use Rattle.palm_tree.specs.Levels.{inner_text, node_text, nodes_text, ids_below, levels_text, IsPrintable, ArePrintable}
+use Rattle.palm_tree.specs.Walk.{inner_text, node_text, nodes_text, ids_below, levels_text, IsPrintable, ArePrintable}
 use Rattle.palm_tree.proofs.Readings.{ReadsOver, inner_reads, leaf_reads}
 
 -- ---- one level

@@ -1,49 +1,57 @@
--- A tree's nodes level by level, as the ids of an arena give them.
-use Rattle.std.specs.Prelude.{ℕ, List, [], ◌++◌, length, codes, Option, None, Some}
+-- A level of a tree as it is built up: the nodes that have no node over them yet.
+use Rattle.std.specs.Prelude.{◌≡◌, ℕ, ◌<◌, count_by, List, [], ◌∷◌, map, Option, None, Some}
 use Rattle.std.specs.List.{flat_map, AllByRecursion}
-use Rattle.std.specs.Fmt.{decimal}
-use Rattle.std.proofs.Common.{zero, suc}
-use Rattle.palm_base.specs.Key.{IsKey}
-use Rattle.palm_base.specs.Shape.{leaf_line, separator_text}
-use Rattle.palm_node.specs.InnerNode.{InnerNode}
+use Rattle.std.proofs.Common.{suc}
+use Rattle.palm_base.specs.Tree.{Subtree}
+use Rattle.palm_base.specs.Pass.{nodes_over}
 use Rattle.palm_node.specs.declared.id.NodeId.{NodeId}
+use Rattle.palm_node.specs.declared.id.Piece.{Piece}
 use Rattle.palm_node.specs.declared.node.Node.{Node}
-use Rattle.palm_node.specs.declared.node.Node.TheVariants.{Leaf, Inner}
-use Rattle.palm_arena.specs.Reads.{inner_in, child_ids}
+use Rattle.palm_arena.specs.Reads.{map_of, children_at, reads, ids_under, same_place}
+use Rattle.palm_arena.specs.declared.place.Place.{Place}
 
--- The line of an inner node: how many children it has, and its separators. So for three children with the keys of 20 and 30
--- between them it is "inner 3 20 30".
-abbrev pub inner_text : InnerNode → List ℕ
-inner_text inner = codes "inner " ++ (decimal (length inner.children) ++ (flat_map separator_text inner.separators ++ codes "\n"))
+-- The lows of pieces. So those of (0, the id 1) and (20, the id 2) are 0 and 20.
+abbrev pub piece_lows : List Piece → List ℕ
+piece_lows pieces = map (λ piece. piece.low) pieces
 
--- The line of a node. Where there is none, nothing.
-abbrev pub node_text : Option Node → List ℕ
-node_text None = []
-node_text (Some (Leaf rows)) = leaf_line rows
-node_text (Some (Inner inner)) = inner_text inner
+-- The ids of pieces. So those of the two above are 1 and 2.
+abbrev pub piece_ids : List Piece → List NodeId
+piece_ids pieces = map (λ piece. piece.id) pieces
 
--- The lines of the nodes at these ids. So for the leaves at 1 and 2 they are two lines that begin with "leaf".
-abbrev pub nodes_text : (NodeId → Option Node) → List NodeId → List ℕ
-nodes_text nodes ids = flat_map (λ id. node_text (nodes id)) ids
+-- The pieces read as these children. So the two above do as (0, a) and (20, b), where 1 reads as a and 2 as b.
+abbrev pub ReadAs : {T : Type 0} → (NodeId → Option T) → List Piece → List (ℕ × T) → Type 0
+ReadAs read pieces children = children_at read (piece_lows pieces) (piece_ids pieces) ≡ Some children
 
--- The ids of the children of the nodes at these ids. So for an inner node over 1 and 2 they are 1 and 2.
-abbrev pub ids_below : (NodeId → Option Node) → List NodeId → List NodeId
-ids_below nodes ids = flat_map (λ id. child_ids (inner_in (nodes id))) ids
+-- The ids of pieces and those under them, so many levels down. So none down, those of the two above are 1 and 2.
+abbrev pub ids_below : (NodeId → Option Node) → ℕ → List Piece → List NodeId
+ids_below nodes n pieces = flat_map (ids_under nodes n) (piece_ids pieces)
 
--- The lines of the nodes at these ids, and of so many levels with theirs. So for a root over two leaves two levels are
--- three lines.
-abbrev pub levels_text : (NodeId → Option Node) → ℕ → List NodeId → List ℕ
-levels_text nodes zero ids = []
-levels_text nodes (suc n) ids = nodes_text nodes ids ++ levels_text nodes n (ids_below nodes ids)
+-- How often an id is met among ids. So 1 is met twice among 1, 2, 1.
+abbrev pub times : NodeId → List NodeId → ℕ
+times id ids = count_by (same_place id) ids
 
--- There is a node, and its separators are keys of prefixes. So a leaf is printable, and an inner node with the separator 7
--- isn't.
-abbrev pub IsPrintable : Option Node → Type 0
-IsPrintable None = ⊥
-IsPrintable (Some (Leaf rows)) = Unit {0}
-IsPrintable (Some (Inner inner)) = AllByRecursion IsKey inner.separators
+-- How often an id with this node has to be met: once where it is live.
+abbrev pub live : Option Node → ℕ
+live None = 0
+live (Some node) = 1
 
--- The same of so many levels.
-abbrev pub ArePrintable : (NodeId → Option Node) → ℕ → List NodeId → Type 0
-ArePrintable nodes zero ids = Unit {0}
-ArePrintable nodes (suc n) ids = AllByRecursion (λ id. IsPrintable (nodes id)) ids × ArePrintable nodes n (ids_below nodes ids)
+-- Each live id is met once among these, and no other id. So it is among 1 and 2 where nodes stand there alone.
+abbrev pub MeetsLive : (NodeId → Option Node) → List NodeId → Type 0
+MeetsLive nodes ids = (id : NodeId) → times id ids ≡ live (nodes id)
+
+-- The pieces are all the nodes of a level: they read as these children, and each live id stands under them once.
+-- So the two above are one of leaves, where nothing stands but the leaves a at 1 and b at 2.
+pub record IsLevel (nodes : NodeId → Option Node) (n : ℕ) (pieces : List Piece) (children : List (ℕ × Subtree n)) : Type 0 where
+  pub read : ReadAs (reads nodes n) pieces children
+  pub met : MeetsLive nodes (ids_below nodes n pieces)
+
+-- Wherever pieces are a level, others are the one above it, of the nodes over the children that they were cut into.
+-- So one piece with the node over 1 and 2 is the level above the two above.
+abbrev pub IsRaised : List Place → List Piece → List Place → List Piece → Type 0
+IsRaised old pieces new made =
+    (n : ℕ) (children : List (ℕ × Subtree n)) → IsLevel (map_of old) n pieces children → IsLevel (map_of new) (suc n) made (nodes_over 0 children)
+
+-- Each number is below all later ones. So 3, 7, 9 rise.
+abbrev pub Rise : List ℕ → Type 0
+Rise [] = Unit {0}
+Rise (first ∷ later) = AllByRecursion (λ number. first < number) later × Rise later

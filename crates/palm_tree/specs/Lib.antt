@@ -3,3 +3,4 @@ pub mod Levels
 pub mod Routes
 pub mod TreeCode
 pub mod TreeValue
+pub mod Walk

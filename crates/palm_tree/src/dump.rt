@@ -5,7 +5,7 @@ ghost use Rattle.palm_base.specs.Extends.{Extends};
 ghost use Rattle.palm_base.specs.Key.{IsKey};
 ghost use Rattle.palm_base.specs.Shape.{leaf_line, separator_text, shape_text};
 ghost use Rattle.palm_arena.specs.Reads.{map_of};
-ghost use Rattle.palm_tree.specs.Levels.{inner_text, nodes_text, ids_below, levels_text, IsPrintable, ArePrintable};
+ghost use Rattle.palm_tree.specs.Walk.{inner_text, nodes_text, ids_below, levels_text, IsPrintable, ArePrintable};
 
 use crate::tree::Tree;
 use palm_arena::{Arena, Shape};

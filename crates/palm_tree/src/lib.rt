@@ -1,6 +1,7 @@
-//! The table's tree: a lawful B+ tree, and how its rows are looked up.
+//! The table's tree: a lawful B+ tree, how it is built from sorted rows, how its rows are looked up, and its shape as text.
 #![tactic(auto)]
 
+mod build;
 mod dump;
 mod list;
 #[cfg(test)]

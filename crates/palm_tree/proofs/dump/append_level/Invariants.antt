@@ -1,6 +1,6 @@
 use Rattle.std.proofs.Common.{◌≡◌, ◌++◌, take}
 use Rattle.palm_arena.specs.Reads.{map_of}
-use Rattle.palm_tree.specs.Levels.{nodes_text, ids_below}
+use Rattle.palm_tree.specs.Walk.{nodes_text, ids_below}
 use Rattle.palm_tree.proofs.dump.append_level.Given as goal
 
 -- the nodes so far are written, and their children are listed

@@ -4,7 +4,7 @@ use Rattle.std.proofs.lemmas.List.{append-nil}
 use Rattle.palm_node.specs.declared.id.NodeId.{NodeId}
 use Rattle.palm_arena.specs.Reads.{map_of}
 use Rattle.palm_base.proofs.Appended.{extends_more, extended}
-use Rattle.palm_tree.specs.Levels.{IsPrintable}
+use Rattle.palm_tree.specs.Walk.{IsPrintable}
 use Rattle.palm_tree.proofs.LevelTexts.{level_printable, none_left, first_text, first_printable, next_text, next_printable}
 use Rattle.palm_tree.proofs.dump.append_levels.Goals as goal
 

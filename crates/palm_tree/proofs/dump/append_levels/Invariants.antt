@@ -1,6 +1,6 @@
 use Rattle.std.proofs.Common.{◌≡◌, List, ℕ, ◌++◌, ◌-◌, ◌∷◌, []}
 use Rattle.palm_arena.specs.Reads.{map_of}
-use Rattle.palm_tree.specs.Levels.{levels_text, ArePrintable}
+use Rattle.palm_tree.specs.Walk.{levels_text, ArePrintable}
 use Rattle.palm_tree.proofs.dump.append_levels.Given as goal
 
 -- what is written so far, with the levels that are left, is all of them
