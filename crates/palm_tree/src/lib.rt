@@ -2,6 +2,8 @@
 #![tactic(auto)]
 
 mod build;
+#[cfg(test)]
+mod tests;
 mod tree;
 
 pub use tree::Tree;
