@@ -62,6 +62,10 @@ left_step count more size i rest less = by (cases_lt i more)
         let none_later : more - (i + 1) ≡ 0 = omega arith in
         rw (another, none, none_later, le-ltb i more even) refl
 
+-- Before the last of so many pieces, counted under another name, some are left.
+pub some_left : (i counted count : ℕ) → i < counted → counted ≡ count → i < count
+some_left i counted count less same = omega (arith, less, same)
+
 pub left_next : {X : Type 0} (width t i : ℕ) (rest : List X) → i < piece_count width t
     → pieces_left width t i rest ≡ take (piece_size width t i) rest ∷ pieces_left width t (i + 1) (drop (piece_size width t i) rest)
 left_next width t i rest less = left_step (piece_count width t) (t % piece_count width t) (t / piece_count width t) i rest less
