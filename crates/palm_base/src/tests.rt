@@ -5,6 +5,7 @@ use std::marker::Brand;
 use std::mem::size_of;
 use std::process::Abort;
 use std::sync::ledger::{Blank, Ledger};
+use std::test::Fail;
 
 // The prefix that a text spells.
 fn digits(rt: &impl Abort, text: &[u8]) -> Digits {
@@ -131,4 +132,19 @@ fn ticks_twice<L: Ledger>(blank: Blank)
 fn counts_steps_in_no_bytes(rt: HostRuntime) {
     ticks_twice::<Brand>(Blank::new(1));
     assert_eq!(rt; size_of::<Steps<Brand>>(), 0);
+}
+
+#[test]
+fn writes_rows(rt: HostRuntime) -> Result<(), Fail> {
+    let mut rows = RowList::new(rt.alloc());
+    for (prefix, rate) in [(b"44", 5), (b"45", 6)] {
+        rows.push(Row {
+            prefix: digits(&rt, prefix),
+            rate: amount(&rt, rate),
+        })?;
+    }
+    let mut text = Vec::new(rt.alloc());
+    text::append_rows(&rows, &mut text)?;
+    assert!(rt; text.as_slice() == b"2 44 5 45 6".as_slice());
+    Ok(())
 }
