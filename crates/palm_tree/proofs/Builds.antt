@@ -3,7 +3,7 @@
 use Rattle.std.proofs.Common.{◌≡◌, ℕ, zero, suc, ◌≤◌, List, [], ◌∷◌, length, map, filter, refl, ap, arith, ◌∙◌, inl, inr}
 use Rattle.std.specs.List.{flat_map, AllByRecursion}
 use Rattle.std.proofs.lemmas.Bool.{cases_lt, le-leb}
-use Rattle.palm_base.specs.Table.{row_key, after_all, IsTable}
+use Rattle.palm_base.specs.Table.{after_all, IsTable}
 use Rattle.palm_base.specs.Tree.{Subtree, Tree}
 use Rattle.palm_base.specs.Cut.{cut}
 use Rattle.palm_base.specs.Pass.{Outcome, pass, below, leaf_outcome, inner_outcome, leaves_of, node_over, top, top_in, base_pass, passed_tree, is_edit, set_of, batch_tree}
@@ -11,7 +11,8 @@ use Rattle.palm_base.specs.Lawful.{HasFromTo, Rising, Sound, InOrder, IsLawful, 
 use Rattle.palm_base.specs.declared.bounds.TheConstants.{LEAST_LEAF_ROWS, MOST_LEAF_ROWS, LEAST_CHILDREN, MOST_CHILDREN}
 use Rattle.palm_base.proofs.Cuts.{cut_none, few_are_one_piece, pieces_join}
 use Rattle.palm_base.proofs.CutParts.{large, cut_sizes}
-use Rattle.palm_base.proofs.RisingRows.{rising_cons, put_all_none}
+use Rattle.palm_base.proofs.RisingRows.{put_all_none}
+use Rattle.palm_base.proofs.RisingTables.{key_bound, table_rises}
 use Rattle.palm_base.proofs.SoundNodes.{leaves_in_order, node_over_same}
 use Rattle.palm_base.proofs.Tops.{top_holds}
 use Rattle.palm_base.specs.declared.row.Row.{Row}
@@ -73,17 +74,6 @@ edits_of_sets : (rows : List Row) → filter is_edit (map set_of rows) ≡ map s
 edits_of_sets [] = refl
 edits_of_sets (row ∷ rows) = ap (λ (calls : List Call). set_of row ∷ calls) (edits_of_sets rows)
 
--- rows of a table rise, from any number that is at most their keys, and below some number
-table_rises : (l : ℕ) (rows : List Row) → AllByRecursion (λ row. l ≤ row_key row) rows → IsTable rows → (h : ℕ) × (l ≤ h) × Rising l h rows
-table_rises l [] from table = (l, omega arith, tt)
-table_rises l (row ∷ rows) from table =
-    let rest = table_rises (suc (row_key row)) rows table.0 table.1 in
-    (rest.0, omega (arith, from.0, rest.1), rising_cons l rest.0 row rows (from.0, omega (arith, rest.1)) rest.2)
-
-all_from_none : (rows : List Row) → AllByRecursion (λ row. 0 ≤ row_key row) rows
-all_from_none [] = tt
-all_from_none (row ∷ rows) = (omega arith, all_from_none rows)
-
 -- The root over the leaves of rising rows makes a lawful tree.
 pub leaves_lawful : (h : ℕ) (rows : List Row) → Rising 0 h rows → IsLawful (top zero (leaves_of 0 rows))
 leaves_lawful h rows rise =
@@ -98,6 +88,6 @@ leaves_lawful h rows rise =
 -- The batch of a table's rows as Sets leaves of the empty tree the root over the table's leaves.
 pub built : (rows : List Row) → IsTable rows → batch_tree (zero, []) (map set_of rows) ≡ top zero (leaves_of 0 rows)
 built rows table =
-    let rise = table_rises 0 rows (all_from_none rows) table in
-    let all : after_all [] (map set_of rows) ≡ rows = put_all_none 0 rise.0 rows rise.2 in
-    rw (edits_of_sets rows, all) (tree_itself (top zero (leaves_of 0 rows)) (leaves_lawful rise.0 rows rise.2))
+    let rise = table_rises rows table in
+    let all : after_all [] (map set_of rows) ≡ rows = put_all_none 0 (key_bound rows) rows rise in
+    rw (edits_of_sets rows, all) (tree_itself (top zero (leaves_of 0 rows)) (leaves_lawful (key_bound rows) rows rise))
