@@ -11,6 +11,7 @@ use Rattle.palm_node.specs.declared.id.NodeId.{NodeId}
 use Rattle.palm_node.specs.declared.node.Node.{Node}
 use Rattle.palm_arena.specs.Reads.{reads, inner_in, child_ids}
 use Rattle.palm_base.proofs.Appended.{append_next}
+use Rattle.palm_base.proofs.Every.{every_append}
 use Rattle.palm_tree.specs.Walk.{inner_text, node_text, nodes_text, ids_below, levels_text, IsPrintable, ArePrintable}
 use Rattle.palm_tree.proofs.Readings.{ReadsOver, inner_reads, leaf_reads}
 
@@ -103,10 +104,6 @@ levels_same nodes (suc n) ids subs all =
 
 -- ---- printable separators
 
-every_join : {X : Type 0} (P : X → Type 0) (xs ys : List X) → AllByRecursion P xs → AllByRecursion P ys → AllByRecursion P (xs ++ ys)
-every_join P [] ys a b = b
-every_join P (x ∷ xs) ys a b = (a.0, every_join P xs ys a.1 b)
-
 every_node : (n : ℕ) (children : List (ℕ × Subtree n)) → AllByRecursion (λ child. LowsAreKeysIn n child.1) children → AllByRecursion (LowsAreKeysIn n) (map (λ child. child.1) children)
 every_node n [] all = tt
 every_node n (child ∷ children) all = (all.0, every_node n children all.1)
@@ -133,7 +130,7 @@ inners_printable nodes n (id ∷ ids) (sub ∷ subs) all lows =
     let rest = inners_printable nodes n ids subs all.1 lows.1 in
     let keys : AllByRecursion IsKey inner.0.separators = subst (AllByRecursion IsKey) (sym inner.2.separators) (keys_of_lows (drop 1 sub) lows.0.0) in
     let here : IsPrintable (nodes id) = subst IsPrintable (sym inner.1) keys in
-    ((here, rest.0), every_join (LowsAreKeysIn n) (map (λ child. child.1) sub) _ (every_node n sub lows.0.1) rest.1)
+    ((here, rest.0), every_append (LowsAreKeysIn n) (map (λ child. child.1) sub) _ (every_node n sub lows.0.1) rest.1)
 
 levels_printable : (nodes : NodeId → Option Node) (n : ℕ) (ids : List NodeId) (subs : List (Subtree n)) → AllRead nodes n ids subs → AllByRecursion (LowsAreKeysIn n) subs → ArePrintable nodes (suc n) ids
 levels_printable nodes zero ids subs all lows = (leaves_printable nodes ids subs all, tt)
