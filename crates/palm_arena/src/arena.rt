@@ -44,7 +44,7 @@ impl Model for Arena {
     ghost invariant = { λ a. IsKept a.begun a.journal a.places.items a.moved.items };
 }
 
-// Puts a node at a free place.
+// Puts a node at a free place, which stays free where memory is refused.
 fn reuse(
     places: &mut Vec<Place>,
     journal: &mut Journal,
@@ -59,7 +59,10 @@ fn reuse(
     ensures err_places { OnErr result (places.new.items ≡ places.old.items) }
     ensures err_journal { OnErr result (IsSame journal.old journal.new) }
 {
-    journal.save(id, places)?;
+    if let Err(refused) = journal.save(id, places) {
+        journal.give_up(id);
+        return Err(refused);
+    }
     places[id.place] = Place::Holds(node);
     Ok(id)
 }

@@ -103,6 +103,15 @@ impl Journal {
         (!self.touched[id.place]).then_some(id)
     }
 
+    /// Makes an id free again that `vacant` gave, and that was not put to use. There is room: it was just taken.
+    pub(crate) fn give_up(&mut self, id: NodeId)
+        ensures { IsSame self.old self.new }
+    {
+        if self.free.len() < self.free.capacity() {
+            self.free.push_reserved(id);
+        }
+    }
+
     /// Ends a batch whose changes stay: nothing is saved any more, and places that it emptied are free. It takes no memory,
     /// and the time that the batch's saved places take.
     pub(crate) fn forget(&mut self, places: &[Place])

@@ -1,5 +1,5 @@
 -- The leaves that sorted rows are cut into, put into an arena one after another.
-use Rattle.std.proofs.Common.{◌≡◌, ℕ, zero, suc, ◌+◌, ◌<◌, ◌≤◌, cond, List, [], ◌∷◌, ◌++◌, length, take, drop, refl, sym, ap, subst, arith, ◌∙◌}
+use Rattle.std.proofs.Common.{◌≡◌, ℕ, zero, suc, ◌+◌, ◌<◌, cond, List, [], ◌∷◌, ◌++◌, length, take, drop, refl, sym, ap, subst, arith, ◌∙◌}
 use Rattle.std.specs.Prelude.{◌==◌}
 use Rattle.std.specs.List.{AllByRecursion}
 use Rattle.std.proofs.lemmas.List.{take-append-drop}
@@ -23,7 +23,7 @@ use Rattle.palm_arena.specs.declared.place.Place.TheVariants.{Holds}
 use Rattle.palm_arena.proofs.Standing.{none_lent_after_put}
 use Rattle.palm_tree.specs.Levels.{IsLevel}
 use Rattle.palm_tree.proofs.PieceReads.{read_length, leaf_added}
-use Rattle.palm_tree.proofs.CutSteps.{pieces_left, IsCutTo, left_first, left_next, left_last, cut_first, cut_next, next_fits, cut_last, later_nodes, next_own, nodes_next, nodes_last}
+use Rattle.palm_tree.proofs.CutSteps.{pieces_left, IsCutTo, left_first, left_next, cut_first, cut_next, later_nodes, next_own, nodes_next}
 
 every_take : (P : Row → Type 0) (k : ℕ) (rows : List Row) → AllByRecursion P rows → AllByRecursion P (take k rows)
 every_take P zero rows all = tt
@@ -90,27 +90,6 @@ leaves_next rows i places rest part leaves size low id far less sized is own lea
           (every_append (λ (row : Row). IsPrefix row.prefix) (take size rest) (drop size rest) (subst PrefixesHold is (recursion_from_All (λ (row : Row). IsPrefix row.prefix) part leaf.prefixes)) later));
     }
 
--- The next piece is within the rest, and a leaf's rows.
-pub leaf_fits : (rows : List Row) (i : ℕ) (places : List Place) (rest : List Row) (leaves : List Piece) → LeavesSoFar rows i places rest leaves
-    → i < piece_count MOST_LEAF_ROWS (length rows) → piece_size MOST_LEAF_ROWS (length rows) i ≤ length rest
-leaf_fits rows i places rest leaves far less = (next_fits MOST_LEAF_ROWS (length rows) i rest less far.cut).0
-
-pub leaf_few : (rows : List Row) (i : ℕ) (places : List Place) (rest part : List Row) (leaves : List Piece) (size : ℕ) → LeavesSoFar rows i places rest leaves
-    → i < piece_count MOST_LEAF_ROWS (length rows) → size ≡ piece_size MOST_LEAF_ROWS (length rows) i → part ≡ take size rest → length part ≤ MOST_LEAF_ROWS
-leaf_few rows i places rest part leaves size far less sized is = rw (is, sized) (next_fits MOST_LEAF_ROWS (length rows) i rest less far.cut).1.1
-
 pub leaf_table : (rows : List Row) (i : ℕ) (places : List Place) (rest part : List Row) (leaves : List Piece) (size : ℕ) → LeavesSoFar rows i places rest leaves
     → part ≡ take size rest → IsTable part
 leaf_table rows i places rest part leaves size far is = rw is (table_take size rest far.table)
-
-empty_rest : (rest : List Row) → length rest ≡ 0 → PrefixesHold rest
-empty_rest [] none = tt
-empty_rest (row ∷ rest) none = absurd (omega arith)
-
-pub leaves_last : (rows : List Row) (i : ℕ) (places : List Place) (rest : List Row) (leaves : List Piece) → LeavesSoFar rows i places rest leaves
-    → piece_count MOST_LEAF_ROWS (length rows) ≤ i → IsLevel (map_of places) zero leaves (leaves_of 0 rows) × PrefixesHold rows
-leaves_last rows i places rest leaves far all =
-    let none = left_last MOST_LEAF_ROWS (length rows) i rest all in
-    let same : far.children ≡ leaves_of 0 rows = nodes_last row_key (λ part. part) far.children (leaves_of 0 rows)
-    (ap (λ (parts : List (List Row)). far.children ++ later_nodes row_key (λ part. part) far.children parts) (sym none) ∙ far.front) in
-    (subst (IsLevel (map_of places) zero leaves) same far.level, far.prefixes (empty_rest rest (cut_last MOST_LEAF_ROWS (length rows) i rest all far.cut)))

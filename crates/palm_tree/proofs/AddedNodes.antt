@@ -137,12 +137,7 @@ read_next level i places rest made size low node id puts vacant n children far =
       front = subst (λ (l : ℕ). (far.nodes ++ (l, node_over part) ∷ []) ++ later_nodes low_of node_over (far.nodes ++ (l, node_over part) ∷ []) parts ≡ nodes_over 0 children) as_low front;
     }
 
--- The next piece is within the rest.
-pub node_fits : (level : List Piece) (old : List Place) (i : ℕ) (places : List Place) (rest made : List Piece) → NodesSoFar level old i places rest made
-    → i < piece_count MOST_CHILDREN (length level) → piece_size MOST_CHILDREN (length level) i ≤ length rest
-node_fits level old i places rest made far less = (next_fits MOST_CHILDREN (length level) i rest less far.cut).0
-
--- And it has the parts of an inner node.
+-- The next piece has the parts of an inner node.
 pub node_parts : (level : List Piece) (old : List Place) (i : ℕ) (places : List Place) (rest made part : List Piece) (size : ℕ) → NodesSoFar level old i places rest made
     → i < piece_count MOST_CHILDREN (length level) → size ≡ piece_size MOST_CHILDREN (length level) i → part ≡ take size rest
     → HasFromTo 1 MOST_CHILDREN part × IsStrictlyIncreasing (piece_lows (drop 1 part))
