@@ -3,6 +3,8 @@ use Rattle.std.specs.Prelude.{◌≡◌, ◌==◌, ◌-◌, ℕ, Bool, List, [],
 use Rattle.std.specs.List.{flat_map, Contains, IsDistinct}
 use Rattle.std.proofs.Common.{zero, suc}
 use Rattle.palm_base.specs.Tree.{Subtree, Tree, levels_of}
+use Rattle.palm_base.specs.Lawful.{IsLawful}
+use Rattle.palm_base.specs.Lows.{LowsAreKeys}
 use Rattle.palm_base.specs.declared.row.Row.{Row}
 use Rattle.palm_node.specs.InnerNode.{InnerNode}
 use Rattle.palm_node.specs.declared.id.NodeId.{NodeId}
@@ -57,6 +59,14 @@ reads map (suc n) id = children_in (reads map n) (inner_in (map id))
 -- A map reads as a tree at its root and with its levels. So the one above does at the root 0 with 2 levels.
 abbrev pub ReadsAs : (NodeId → Option Node) → Shape → Tree → Type 0
 ReadsAs map shape tree = (shape.levels ≡ levels_of tree) × (reads map tree.0 shape.root ≡ Some tree.1)
+
+-- A map reads at a shape as a lawful tree, whose lows are keys of prefixes. So the one above does where a and b have 8 rows
+-- each, those of a below 20 and those of b from 20 on.
+pub record HasTree (map : NodeId → Option Node) (shape : Shape) : Type 0 where
+  pub tree : Tree
+  pub reads-as : ReadsAs map shape tree
+  pub lawful : IsLawful tree
+  pub lows : LowsAreKeys tree
 
 -- The ids of the children of a node. A leaf has none.
 abbrev pub child_ids : Option InnerNode → List NodeId

@@ -38,6 +38,20 @@ impl RowList {
         }
     }
 
+    /// The rows of a vector, in their order, in the memory that they stand in.
+    pub fn from_vec(rows: Vec<Row>) -> RowList
+        ensures { result ≡ rows.items }
+    {
+        RowList { rows }
+    }
+
+    /// The rows as a vector, in the memory that they stand in.
+    pub fn into_vec(self) -> Vec<Row>
+        ensures { result.items ≡ self }
+    {
+        self.rows
+    }
+
     /// The number of rows.
     pub fn len(&self) -> usize
         ensures { result ≡ length self.now }
