@@ -1,7 +1,12 @@
 pub mod ArenaState
+pub mod Cells
 pub mod Journal
 pub mod Laws
 pub mod LeaseState
 pub mod Leaves
 pub mod LendsNode
+pub mod Passes
+pub mod Placed
 pub mod Reads
+pub mod Sites
+pub mod Standing

@@ -1,0 +1,66 @@
+-- Trees with the ids that their nodes stand at.
+use Rattle.std.specs.Prelude.{◌≡◌, ℕ, ◌<◌, List, [], ◌∷◌, ◌++◌, length, map, drop}
+use Rattle.std.specs.List.{flat_map, AllByRecursion}
+use Rattle.std.proofs.Common.{zero, suc}
+use Rattle.palm_base.specs.Tree.{Subtree, Tree}
+use Rattle.palm_base.specs.Lawful.{next_low}
+use Rattle.palm_base.specs.declared.row.Row.{Row}
+use Rattle.palm_node.specs.declared.id.NodeId.{NodeId}
+use Rattle.palm_node.specs.declared.id.Piece.{Piece}
+use Rattle.palm_node.specs.declared.node.Node.{Node}
+use Rattle.palm_node.specs.declared.node.Node.TheVariants.{Leaf, Inner}
+use Rattle.palm_arena.specs.Cells.{Cell}
+
+-- What stands below an id: the rows of a leaf, or the children of an inner node, each with its low and its id.
+-- So below the root over the leaves 1 and 2 there are (0, (1, the rows of 1)) and (20, (2, the rows of 2)).
+abbrev pub Body : ℕ → Type 0
+Body zero = List Row
+Body (suc n) = List (ℕ × (NodeId × Body n))
+
+-- A node with its id and all that is under it.
+abbrev pub Placed : ℕ → Type 0
+Placed n = NodeId × Body n
+
+-- A tree with its ids: how many levels stand below its root, and its root.
+abbrev pub PlacedTree : Type 0
+PlacedTree = (n : ℕ) × Placed n
+
+-- The value without the ids. So that of the root above is (0, the rows of 1), (20, the rows of 2).
+abbrev pub value_in : (n : ℕ) → Body n → Subtree n
+value_in zero rows = rows
+value_in (suc n) children = map (λ child. (child.0, value_in n child.1.1)) children
+
+-- Children, or pieces, without their ids.
+abbrev pub values : (n : ℕ) → List (ℕ × Placed n) → List (ℕ × Subtree n)
+values n children = map (λ child. (child.0, value_in n child.1.1)) children
+
+-- The tree without its ids.
+abbrev pub value_of : PlacedTree → Tree
+value_of tree = (tree.0, value_in tree.0 tree.1.1)
+
+-- The ids of children, in order.
+abbrev pub ids_of_children : {B : Type 0} → List (ℕ × (NodeId × B)) → List NodeId
+ids_of_children children = map (λ child. child.1.0) children
+
+-- The separators of children: their lows, but that of the first. So those of (0, a), (20, b) are 20.
+abbrev pub lows_between : {X : Type 0} → List (ℕ × X) → List ℕ
+lows_between children = map (λ child. child.0) (drop 1 children)
+
+-- Children, or pieces, by their lows and ids alone.
+abbrev pub bare : {B : Type 0} → List (ℕ × (NodeId × B)) → List Piece
+bare children = map (λ child. record { low = child.0; id = child.1.0 }) children
+
+-- The node that an arena holds for it.
+abbrev pub node_of : (n : ℕ) → Body n → Node
+node_of zero rows = Leaf rows
+node_of (suc n) children = Inner (record { children = ids_of_children children; separators = lows_between children })
+
+-- A node with all that is under it, as cells. So those of the root above are its own and those of the leaves 1 and 2.
+abbrev pub cells_of : (n : ℕ) → Placed n → List Cell
+cells_of zero placed = (placed.0, Leaf placed.1) ∷ []
+cells_of (suc n) placed =
+    (placed.0, Inner (record { children = ids_of_children placed.1; separators = lows_between placed.1 })) ∷ flat_map (λ child. cells_of n child.1) placed.1
+
+-- Children, or pieces, with all that is under them.
+abbrev pub cells_under : (n : ℕ) → List (ℕ × Placed n) → List Cell
+cells_under n children = flat_map (λ child. cells_of n child.1) children

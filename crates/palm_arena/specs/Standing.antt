@@ -1,0 +1,78 @@
+-- What holds between the levels of a pass: each node of a level has become what the serial rule makes of it, and all else
+-- is as it was.
+use Rattle.std.specs.Prelude.{◌≡◌, ℕ, Bool, true, false, List, [], ◌∷◌, ◌++◌, length, map, filter, Option}
+use Rattle.std.specs.List.{flat_map, AllByRecursion, list_any}
+use Rattle.std.specs.List.Sorted.{IsPermutation}
+use Rattle.std.proofs.Common.{zero, suc}
+use Rattle.palm_base.specs.Tree.{rows_in}
+use Rattle.palm_base.specs.declared.row.Row.{Row}
+use Rattle.palm_node.specs.declared.id.NodeId.{NodeId}
+use Rattle.palm_node.specs.declared.node.Node.{Node}
+use Rattle.palm_node.specs.declared.change.Change.{Change}
+use Rattle.palm_node.specs.declared.change.Changes.{Changes}
+use Rattle.palm_node.specs.declared.change.Removed.{Removed}
+use Rattle.palm_arena.specs.Cells.{Cell, Owns}
+use Rattle.palm_arena.specs.Placed.{Placed, value_in, values, cells_of, cells_under, bare}
+use Rattle.palm_arena.specs.Sites.{Site, raised, sites_at, cells_above, outcome_at}
+
+-- A touched leaf is the node, or is under it. So the root over the leaves 1 and 2 is touched where 2 is.
+abbrev pub is_touched : (NodeId → Bool) → (l : ℕ) → Placed l → Bool
+is_touched touched zero placed = touched placed.0
+is_touched touched (suc l) placed = list_any (λ child. is_touched touched l child.1) placed.1
+
+-- What stands for a node after the pass: the pieces in its place, each with its low and its id.
+pub record Result (l : ℕ) : Type 0 where
+  pub site : Site l
+  pub pieces : List (ℕ × Placed l)
+
+-- The node is touched.
+abbrev pub is_hit : (NodeId → Bool) → (l : ℕ) → Result l → Bool
+is_hit touched l result = is_touched touched l result.site.place
+
+-- An untouched node stands for itself, with all that is under it.
+abbrev pub StandsForItself : (NodeId → Bool) → (l : ℕ) → Result l → Type 0
+StandsForItself touched l result = is_hit touched l result ≡ false → result.pieces ≡ (result.site.low, result.site.place) ∷ []
+
+-- The pieces are those that the serial rule gives.
+abbrev pub IsRight : (l d : ℕ) → Result l → Type 0
+IsRight l d result = values l result.pieces ≡ (outcome_at l d result.site).pieces
+
+-- The rows that the serial rule leaves loose of a node.
+abbrev pub loose_of : (l d : ℕ) → Result l → List Row
+loose_of l d result = (outcome_at l d result.site).loose
+
+-- The change of a node: where it was, the way to it, and its pieces.
+abbrev pub change_of : (l : ℕ) → Result l → Change
+change_of l result = record { node = result.site.place.0; path = result.site.path; pieces = bare result.pieces }
+
+-- An inner node that was removed with children left: how many levels are below it, and itself with all that is under it.
+-- So it is with a node of level 2, counted from the leaves at 1, one level of which, its leaves, is below it.
+pub record Kept : Type 0 where
+  pub below : ℕ
+  pub place : Placed below
+
+abbrev pub kept_cells : Kept → List Cell
+kept_cells kept = cells_of kept.below kept.place
+
+abbrev pub kept_rows : Kept → List Row
+kept_rows kept = rows_in kept.below (value_in kept.below kept.place.1)
+
+-- As the changes name it: its level is counted from the leaves at 1.
+abbrev pub removed_of : Kept → Removed
+removed_of kept = record { level = suc kept.below; id = kept.place.0 }
+
+-- The changes of the level l stand for a pass over the tree at `root`, which is d levels above it: each node of the level has
+-- its pieces, an untouched one itself; the changes are those of the touched nodes, from left to right; the loose rows with
+-- the rows under the removed nodes are the loose rows of the serial rule, each once; and a map holds the nodes above the
+-- level as they were, the pieces with all that is under them, the removed nodes with all that is under them, and `rest`,
+-- with no id met twice.
+pub record Stands (d l : ℕ) (root : Site (raised l d)) (touched : NodeId → Bool) (rest : List Cell) (nodes : NodeId → Option Node) (changes : Changes) : Type 0 where
+  pub results : List (Result l)
+  pub kept : List Kept
+  pub sites : map (λ result. result.site) results ≡ sites_at d l root
+  pub still : AllByRecursion (StandsForItself touched l) results
+  pub right : AllByRecursion (IsRight l d) results
+  pub changed : changes.nodes ≡ map (change_of l) (filter (is_hit touched l) results)
+  pub removed : changes.removed ≡ map removed_of kept
+  pub loose : IsPermutation (changes.loose ++ flat_map kept_rows kept) (flat_map (loose_of l d) results)
+  pub owned : Owns nodes (cells_above d l root ++ (cells_under l (flat_map (λ result. result.pieces) results) ++ (flat_map kept_cells kept ++ rest)))
