@@ -12,3 +12,4 @@ pub mod Natural
 pub mod SitePasses
 pub mod Turning
 pub mod LevelCells
+pub mod NamedNodes

@@ -35,3 +35,5 @@ pub mod TableSplits
 pub mod Tables
 pub mod Tops
 pub mod TreeExamples
+pub mod CutSteps
+pub mod Builds

@@ -23,7 +23,7 @@ use Rattle.palm_arena.specs.declared.place.Place.TheVariants.{Holds}
 use Rattle.palm_arena.proofs.Standing.{none_lent_after_put}
 use Rattle.palm_tree.specs.Levels.{IsLevel}
 use Rattle.palm_tree.proofs.PieceReads.{read_length, leaf_added}
-use Rattle.palm_tree.proofs.CutSteps.{pieces_left, IsCutTo, left_first, left_next, cut_first, cut_next, later_nodes, next_own, nodes_next}
+use Rattle.palm_base.proofs.CutSteps.{pieces_left, IsCutTo, left_first, left_next, cut_first, cut_next, later_nodes, next_own, nodes_next}
 
 every_take : (P : Row → Type 0) (k : ℕ) (rows : List Row) → AllByRecursion P rows → AllByRecursion P (take k rows)
 every_take P zero rows all = tt

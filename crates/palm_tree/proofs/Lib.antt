@@ -1,10 +1,8 @@
 pub mod AddedLeaves
 pub mod AddedNodes
-pub mod Builds
 pub mod BuiltTrees
 pub mod ChildParts
 pub mod Children
-pub mod CutSteps
 pub mod Descents
 pub mod EmptyTree
 pub mod FrontRates
