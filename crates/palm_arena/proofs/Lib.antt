@@ -4,5 +4,6 @@ pub mod Marks
 pub mod Undoing
 pub mod Keeping
 pub mod Putting
+pub mod Readings
 pub mod Seeing
 pub mod Standing

@@ -5,3 +5,4 @@ pub mod LeaseState
 pub mod Leaves
 pub mod LendsNode
 pub mod Reads
+pub mod Routes

@@ -1,0 +1,6 @@
+pub mod Edits
+pub mod Groups
+pub mod Laws
+pub mod Parts
+pub mod Ranges
+pub mod Runs
