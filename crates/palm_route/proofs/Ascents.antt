@@ -1,5 +1,5 @@
 -- Leaves whose ranges begin one after another, and to which of them a key goes.
-use Rattle.std.proofs.Common.{◌≡◌, ℕ, suc, ◌<◌, ◌≤◌, leb, cond, List, [], ◌∷◌, ◌++◌, Option, Some, refl, sym, ap, subst, arith, ◌∙◌}
+use Rattle.std.proofs.Common.{◌≡◌, ℕ, ◌<◌, ◌≤◌, leb, cond, List, [], ◌∷◌, ◌++◌, Option, Some, refl, sym, ap, subst, arith}
 use Rattle.std.specs.List.{AllByRecursion}
 use Rattle.std.proofs.lemmas.Bool.{lt-leb, le-leb}
 use Rattle.palm_arena.specs.Leaves.{LeafPlace, leaf_for}

@@ -1,5 +1,5 @@
 -- Where a part stands on its way down: at a node with a range, under which the leaf of its key is.
-use Rattle.std.proofs.Common.{◌≡◌, ℕ, zero, suc, ◌+◌, ◌-◌, ◌<◌, ◌≤◌, List, [], ◌∷◌, ◌++◌, length, map, get_or, slice_get, Option, Some, None, IsSome, refl, sym, ap, subst, arith, ◌∙◌}
+use Rattle.std.proofs.Common.{◌≡◌, ℕ, zero, suc, ◌+◌, ◌-◌, ◌<◌, ◌≤◌, List, [], ◌∷◌, ◌++◌, length, get_or, slice_get, Option, Some, refl, sym, ap, subst, arith, ◌∙◌}
 use Rattle.std.proofs.lemmas.List.{length-append}
 use Rattle.std.proofs.lemmas.Option.{get_or_from_slice_get}
 use Rattle.palm_base.specs.Tree.{Subtree, Tree}
@@ -7,16 +7,14 @@ use Rattle.palm_base.specs.Lawful.{Root}
 use Rattle.palm_base.specs.declared.bounds.TheConstants.{MOST_LEVELS}
 use Rattle.palm_base.proofs.LevelCounts.{lawful_trees_are_low}
 use Rattle.palm_base.proofs.Lows.{prefixes_in}
-use Rattle.palm_base.specs.declared.row.Row.{Row}
 use Rattle.palm_node.specs.InnerNode.{InnerNode}
 use Rattle.palm_node.specs.declared.id.NodeId.{NodeId}
 use Rattle.palm_node.specs.declared.node.Node.{Node}
-use Rattle.palm_node.specs.declared.node.Node.TheVariants.{Leaf, Inner}
+use Rattle.palm_node.specs.declared.node.Node.TheVariants.{Inner}
 use Rattle.palm_arena.specs.Leaves.{LeafPlace, leaf_for, leaves_under, leaves_at}
-use Rattle.palm_arena.specs.Reads.{reads, HasTree}
+use Rattle.palm_arena.specs.Reads.{HasTree}
 use Rattle.palm_arena.specs.Routes.{route_of}
 use Rattle.palm_arena.specs.declared.shape.Shape.{Shape}
-use Rattle.palm_arena.proofs.Readings.{leaf_reads}
 use Rattle.palm_route.specs.Ranges.{IsRange, HasRange}
 use Rattle.palm_route.specs.Laws.{LeavesRise, LeavesAreThere}
 use Rattle.palm_route.proofs.Ascents.{Ascends, rise}
@@ -26,7 +24,7 @@ use Rattle.palm_route.proofs.LeavesUnder.{all_ascend, IsOver, is_over, leaves_ar
 
 root_range : (n high : ℕ) (node : Subtree n) → Root n high node → (h : ℕ) × IsRange n 0 h node
 root_range zero high rows root = (1, omega arith)
-root_range (suc n) high children root = (high, (omega (arith, root.0.0), root.2))
+root_range (suc n) high children root = (high, ((omega (arith, root.0.0), root.0.1), root.2))
 
 -- The root of a tree has a range that begins at 0.
 pub tree_range : (nodes : NodeId → Option Node) (shape : Shape) → HasTree nodes shape → HasRange nodes (shape.levels - 1) 0 shape.root

@@ -1,18 +1,18 @@
 -- Groups of routed parts: the same parts in another order make the same groups where those of each leaf keep their order, and
 -- parts in the order of their leaves make them one after another.
-use Rattle.std.proofs.Common.{◌≡◌, ℕ, ◌<◌, ◌≤◌, Bool, true, false, ltb, leb, eqb, cond, List, [], ◌∷◌, ◌++◌, map, filter, Some, refl, sym, ap, subst, arith, append_assoc, ◌∙◌, ◌⊎◌, inl, inr}
+use Rattle.std.proofs.Common.{◌≡◌, ℕ, ◌<◌, ◌≤◌, Bool, true, false, ltb, leb, eqb, List, [], ◌∷◌, ◌++◌, map, filter, refl, sym, ap, subst, arith, append_assoc, ◌∙◌, ◌⊎◌, inl, inr}
 use Rattle.std.specs.List.{AllByRecursion, fold}
 use Rattle.std.proofs.lemmas.Bool.{cases_lt, lt-ltb, le-ltb, lt-leb, le-leb, ne_eqb}
 use Rattle.std.proofs.lemmas.Option.{same_Some}
 use Rattle.std.proofs.lemmas.List.{append-nil, map-append}
 use Rattle.std.proofs.lemmas.List.Elements.{filter-append}
-use Rattle.palm_arena.specs.Leaves.{LeafPlace, leaf_for}
+use Rattle.palm_arena.specs.Leaves.{LeafPlace}
 use Rattle.palm_base.proofs.Every.{every_weaker, every_append, every_filter}
 use Rattle.palm_route.specs.declared.part.Part.{Part}
 use Rattle.palm_route.specs.declared.part.Routed.{Routed}
 use Rattle.palm_route.specs.declared.part.Group.{Group}
 use Rattle.palm_route.specs.Groups.{place_of, IsRoutedTo, LowsRise, group_at, groups_of}
-use Rattle.palm_route.specs.Runs.{group_with, with_routed, runs_of}
+use Rattle.palm_route.specs.Runs.{with_routed, runs_of}
 use Rattle.palm_route.proofs.Routings.{eqb_same, at_first, at_later, above_first, left_test, all_later, filter_on, filter_map, filter_twice, filter_all, filter_none}
 
 -- The parts without their leaves.

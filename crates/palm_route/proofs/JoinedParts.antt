@@ -1,5 +1,5 @@
 -- Parts that are put to a root, routed, and moved out again: each is the same part, and at its leaf.
-use Rattle.std.proofs.Common.{◌≡◌, ℕ, List, [], ◌∷◌, ◌++◌, length, get_or, map, Option, Some, None, refl, sym, ap, subst, arith, ◌∙◌}
+use Rattle.std.proofs.Common.{◌≡◌, List, [], ◌∷◌, ◌++◌, length, map, Option, Some, None, refl, sym, ap, subst, arith, ◌∙◌}
 use Rattle.std.specs.List.{AllByRecursion, AllZip}
 use Rattle.palm_arena.specs.ArenaState.{ArenaState}
 use Rattle.palm_arena.specs.declared.shape.Shape.{Shape}

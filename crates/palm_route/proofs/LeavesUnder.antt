@@ -1,25 +1,26 @@
 -- The leaves under a node: their ranges begin one after another within the node's, and a key goes to one under the child that
 -- the node routes it to.
-use Rattle.std.proofs.Common.{◌≡◌, ℕ, zero, suc, ◌+◌, ◌<◌, ◌≤◌, leb, cond, List, [], ◌∷◌, ◌++◌, length, map, get_or, Option, Some, None, refl, sym, ap, subst, arith, ◌∙◌, ◌⊎◌, inl, inr}
+use Rattle.std.proofs.Common.{◌≡◌, ℕ, zero, suc, ◌+◌, ◌<◌, ◌≤◌, leb, cond, List, [], ◌∷◌, ◌++◌, length, map, get_or, Option, Some, refl, ap, arith, ◌∙◌, ◌⊎◌, inl, inr}
 use Rattle.std.proofs.lemmas.Bool.{cases_lt, lt-leb, le-leb}
 use Rattle.std.proofs.lemmas.List.{append-nil}
 use Rattle.std.proofs.lemmas.List.Sums.{sum_by-cons}
 use Rattle.palm_base.specs.Tree.{Subtree}
 use Rattle.palm_base.specs.Lawful.{Sound, InOrder}
+use Rattle.palm_base.specs.declared.bounds.TheConstants.{MOST_CHILDREN}
 use Rattle.palm_node.specs.InnerNode.{InnerNode}
 use Rattle.palm_node.specs.declared.id.NodeId.{NodeId}
 use Rattle.palm_node.specs.declared.node.Node.{Node}
-use Rattle.palm_node.specs.declared.node.Node.TheVariants.{Leaf, Inner}
-use Rattle.palm_arena.specs.Leaves.{LeafPlace, leaf_for, leaves_of_node, leaves_of_children, leaves_under}
+use Rattle.palm_node.specs.declared.node.Node.TheVariants.{Inner}
+use Rattle.palm_arena.specs.Leaves.{leaf_for, leaves_of_node, leaves_of_children, leaves_under}
 use Rattle.palm_arena.specs.Reads.{inner_in, reads}
-use Rattle.palm_arena.specs.Routes.{separators_of, route_of}
-use Rattle.palm_arena.proofs.Readings.{ReadsOver, inner_reads}
+use Rattle.palm_arena.specs.Routes.{route_of}
+use Rattle.palm_arena.proofs.Readings.{inner_reads}
 use Rattle.palm_route.specs.Ranges.{IsRange, HasRange}
 use Rattle.palm_route.proofs.Ascents.{Ascends, join, goes_left, goes_right}
 
 pub sound_range : (n low high : ℕ) (node : Subtree n) → low < high → Sound n low high node → IsRange n low high node
 sound_range zero low high rows less sound = less
-sound_range (suc n) low high children less sound = (omega (arith, sound.0.0), sound.2)
+sound_range (suc n) low high children less sound = ((omega (arith, sound.0.0), sound.0.1), sound.2)
 
 -- The children read at their ids, one by one.
 abbrev pub AreRead : {X : Type 0} → (NodeId → Option X) → List NodeId → List (ℕ × X) → Type 0
@@ -46,10 +47,11 @@ pub record IsOver (nodes : NodeId → Option Node) (n low high : ℕ) (id : Node
   pub separators : inner.separators ≡ map (λ child. child.0) later
   pub read : AreRead (reads nodes n) inner.children (first ∷ later)
   pub order : InOrder n low high (first ∷ later)
+  pub few : length inner.children ≤ MOST_CHILDREN
 
 pub is_over : (nodes : NodeId → Option Node) (n low high : ℕ) (id : NodeId) (node : Subtree (suc n)) → reads nodes (suc n) id ≡ Some node
     → IsRange (suc n) low high node → (inner : InnerNode) × IsOver nodes n low high id inner
-is_over nodes n low high id [] e range = absurd (omega (arith, range.0))
+is_over nodes n low high id [] e range = absurd (omega (arith, range.0.0))
 is_over nodes n low high id (first ∷ later) e range =
     let known = inner_reads nodes n id (first ∷ later) e in
     let over = known.2 in (
@@ -61,6 +63,7 @@ is_over nodes n low high id (first ∷ later) e range =
         separators = over.separators;
         read = are_read (reads nodes n) known.0.children (first ∷ later) over.count over.each;
         order = range.1;
+        few = omega (arith, over.count, range.0.1);
       },
     )
 
@@ -76,7 +79,7 @@ AllAscend nodes n =
     (path : List (NodeId × ℕ)) (low high : ℕ) (id : NodeId) (node : Subtree n) → reads nodes n id ≡ Some node → IsRange n low high node
     → Ascends low high (leaves_under nodes n path low id)
 
-children_ascend : (nodes : NodeId → Option Node) (n : ℕ) → AllAscend nodes n → (path : List (NodeId × ℕ)) (id : NodeId) (i low high : ℕ) (ids : List NodeId) (child : ℕ × Subtree n) (children : List (ℕ × Subtree n))
+pub children_ascend : (nodes : NodeId → Option Node) (n : ℕ) → AllAscend nodes n → (path : List (NodeId × ℕ)) (id : NodeId) (i low high : ℕ) (ids : List NodeId) (child : ℕ × Subtree n) (children : List (ℕ × Subtree n))
     → AreRead (reads nodes n) ids (child ∷ children) → InOrder n low high (child ∷ children)
     → Ascends low high (leaves_of_children (leaves_under nodes n) path id i (low ∷ map (λ c. c.0) children) ids)
 children_ascend nodes n all path id i low high [] child children read order = absurd read
@@ -98,17 +101,17 @@ all_ascend nodes (suc n) path low high id node e range =
 
 -- ---- one step down
 
-route-past : (k low : ℕ) (lows : List ℕ) → low ≤ k → route_of k (low ∷ lows) ≡ suc (route_of k lows)
-route-past k low lows h = sum_by-cons (λ s. cond (leb s k) 1 0) low lows ∙ rw (le-leb low k h) (omega arith)
+pub route_past : (k low : ℕ) (lows : List ℕ) → low ≤ k → route_of k (low ∷ lows) ≡ suc (route_of k lows)
+route_past k low lows h = sum_by-cons (λ s. cond (leb s k) 1 0) low lows ∙ rw (le-leb low k h) (omega arith)
 
-route-before : (k low : ℕ) (lows : List ℕ) → k < low → route_of k (low ∷ lows) ≡ route_of k lows
-route-before k low lows h = sum_by-cons (λ s. cond (leb s k) 1 0) low lows ∙ rw (lt-leb low k h) (omega arith)
+route_before : (k low : ℕ) (lows : List ℕ) → k < low → route_of k (low ∷ lows) ≡ route_of k lows
+route_before k low lows h = sum_by-cons (λ s. cond (leb s k) 1 0) low lows ∙ rw (lt-leb low k h) (omega arith)
 
-route-none : (n k low high : ℕ) (children : List (ℕ × Subtree n)) → k < low → (child : ℕ × Subtree n) → child.0 ≡ low → InOrder n low high (child ∷ children)
+pub route_none : (n k low high : ℕ) (children : List (ℕ × Subtree n)) → k < low → (child : ℕ × Subtree n) → child.0 ≡ low → InOrder n low high (child ∷ children)
     → route_of k (map (λ c. c.0) (child ∷ children)) ≡ 0
-route-none n k low high [] less child same order = route-before k child.0 [] (omega arith)
-route-none n k low high (next ∷ children) less child same order =
-    route-before k child.0 (map (λ c. c.0) (next ∷ children)) (omega arith) ∙ route-none n k next.0 high children (omega (arith, order.0.0)) next refl order.1
+route_none n k low high [] less child same order = route_before k child.0 [] (omega arith)
+route_none n k low high (next ∷ children) less child same order =
+    route_before k child.0 (map (λ c. c.0) (next ∷ children)) (omega arith) ∙ route_none n k next.0 high children (omega (arith, order.0.0)) next refl order.1
 
 -- The child at this place: a node with a range stands there, and the key's leaf is under it.
 pub record Turns (nodes : NodeId → Option Node) (n k : ℕ) (path : List (NodeId × ℕ)) (id : NodeId) (i : ℕ) (lows : List ℕ) (ids : List NodeId) (j : ℕ) : Type 0 where
@@ -137,13 +140,13 @@ turns nodes n k path id i low high (own ∷ ids) child (next ∷ children) read 
     by : Turns nodes n k path id (suc i) (next.0 ∷ map (λ c. c.0) children) ids (route_of k (map (λ c. c.0) children)) → (k < next.0) ⊎ (next.0 ≤ k)
         → Turns nodes n k path id i (low ∷ next.0 ∷ map (λ c. c.0) children) (own ∷ ids) (route_of k (next.0 ∷ map (λ c. c.0) children))
     by rest (inl less) =
-        let none : route_of k (next.0 ∷ map (λ c. c.0) children) ≡ 0 = route-none n k next.0 high children less next refl order.1 in
+        let none : route_of k (next.0 ∷ map (λ c. c.0) children) ≡ 0 = route_none n k next.0 high children less next refl order.1 in
         rw none (record {
           range = λ d. record { node = child.1; reads-as = read.0; high = next.0; range = sound_range n low next.0 child.1 order.0.0 order.0.1 };
           same = λ d p e. let at : p ≡ i = omega (arith, e) in rw at (goes_left k low next.0 high _ _ left right less);
         })
     by rest (inr least) =
-        let more : route_of k (next.0 ∷ map (λ c. c.0) children) ≡ suc (route_of k (map (λ c. c.0) children)) = route-past k next.0 (map (λ c. c.0) children) least in
+        let more : route_of k (next.0 ∷ map (λ c. c.0) children) ≡ suc (route_of k (map (λ c. c.0) children)) = route_past k next.0 (map (λ c. c.0) children) least in
         rw more (record {
           range = λ d. rest.range d;
           same = λ d p e. goes_right k low next.0 high _ _ left right least ∙ rest.same d p (omega (arith, e));

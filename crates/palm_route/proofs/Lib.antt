@@ -3,6 +3,9 @@ pub mod Ascents
 pub mod Descents
 pub mod GroupedParts
 pub mod JoinedParts
+pub mod LaterLows
 pub mod LeavesUnder
+pub mod LowWalks
+pub mod PartSteps
 pub mod Routings
 pub mod SortedParts

@@ -1,12 +1,11 @@
 -- Parts that are routed to leaves whose lows rise: those left of the second leaf are at the first.
-use Rattle.std.proofs.Common.{◌≡◌, ℕ, ◌<◌, ◌≤◌, Bool, true, false, ltb, leb, eqb, cond, List, [], ◌∷◌, map, filter, Option, Some, None, refl, sym, ap, subst, arith, ◌∙◌, ◌⊎◌, inl, inr}
+use Rattle.std.proofs.Common.{◌≡◌, ℕ, ◌<◌, ◌≤◌, Bool, true, false, ltb, leb, eqb, cond, List, [], ◌∷◌, map, filter, Some, refl, sym, ap, subst, arith, ◌∙◌, ◌⊎◌, inl, inr}
 use Rattle.std.specs.List.{AllByRecursion}
 use Rattle.std.proofs.lemmas.Bool.Decides.{nat_tests}
 use Rattle.std.proofs.lemmas.Bool.{cases_lt, lt-ltb, le-ltb, lt-leb, le-leb, ne_eqb}
 use Rattle.std.proofs.lemmas.Option.{same_Some}
 use Rattle.palm_arena.specs.Leaves.{LeafPlace, leaf_for}
-use Rattle.palm_base.proofs.Every.{every_weaker, every_filter}
-use Rattle.palm_route.specs.declared.part.Part.{Part}
+use Rattle.palm_base.proofs.Every.{every_filter}
 use Rattle.palm_route.specs.declared.part.Routed.{Routed}
 use Rattle.palm_route.specs.Groups.{place_of, IsRoutedTo, LowsRise}
 

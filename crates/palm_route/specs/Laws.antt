@@ -1,5 +1,5 @@
 -- The laws of routing, which functions of the module of laws carry.
-use Rattle.std.specs.Prelude.{◌≡◌, ◌≤◌, length, Option}
+use Rattle.std.specs.Prelude.{◌≤◌, length, Option}
 use Rattle.palm_node.specs.declared.id.NodeId.{NodeId}
 use Rattle.palm_node.specs.declared.node.Node.{Node}
 use Rattle.palm_arena.specs.Leaves.{leaves_at}

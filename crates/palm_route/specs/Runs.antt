@@ -1,5 +1,5 @@
 -- Groups that grow part by part, where the parts come in the order of their leaves.
-use Rattle.std.specs.Prelude.{ℕ, ◌==◌, if◌then◌else◌, List, [], ◌∷◌, ◌++◌}
+use Rattle.std.specs.Prelude.{◌==◌, if◌then◌else◌, List, [], ◌∷◌, ◌++◌}
 use Rattle.std.specs.List.{fold}
 use Rattle.palm_route.specs.declared.part.Routed.{Routed}
 use Rattle.palm_route.specs.declared.part.Group.{Group}

@@ -41,7 +41,7 @@ fn append_lows(
     let last = inner.route(span.to);
     let mut i = inner.route(span.from);
     while i <= last {
-        let first = if i == 0 { low } else { inner.separator(i - 1) };
+        let first = low_of_child(inner, i, low);
         append_lows(arena, inner.child(i), below - 1, first, span, keys)?;
         i += 1;
     }

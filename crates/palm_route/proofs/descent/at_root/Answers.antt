@@ -1,4 +1,4 @@
-use Rattle.std.proofs.Common.{◌≡◌, List, length, subst, refl, sym, ap, arith, ◌∙◌}
+use Rattle.std.proofs.Common.{List, length, subst, refl, sym, ap, arith, ◌∙◌}
 use Rattle.std.specs.List.{AllZip}
 use Rattle.std.proofs.lemmas.Iterator.Adapters.{YieldsList-from_vec}
 use Rattle.std.proofs.lemmas.Iterator.Consumers.{YieldsList-turn, YieldsList-end}
@@ -13,8 +13,14 @@ push_reserved-requires c =
     let gives = c.into_iter-part-iterator.ensures.into_iter_gives in
     let turn = YieldsList-turn (YieldsList-from_vec {s = c.into_iter-part-iterator.result} vec.items gives.0 (gives.1 ∙ vec.ok.0)) c.loop-part.yielded c.loop-part.part-iterator c.loop-part.yielded_by
     c.next.result c.next.new.self c.in-Some.part c.in-Some.is c.next.ensures.steps in
-    omega (arith, turn.0, ap length c.into_vec-part-items.ensures, c.loop-part.invariant.room, c.loop-part.descents.ok.0,
-    zip_length (StartsAt c.args.arena.now c.args.shape) c.loop-part.yielded c.loop-part.descents.items c.loop-part.invariant.starts)
+    omega (
+      arith,
+      turn.0,
+      ap length c.into_vec-part-items.ensures,
+      c.loop-part.invariant.room,
+      c.loop-part.descents.ok.0,
+      zip_length (StartsAt c.args.arena.now c.args.shape) c.loop-part.yielded c.loop-part.descents.items c.loop-part.invariant.starts,
+    )
 
 pub loop-part-preserved : goal.loop-part-preserved
 loop-part-preserved c = record {

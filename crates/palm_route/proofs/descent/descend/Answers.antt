@@ -1,4 +1,4 @@
-use Rattle.std.proofs.Common.{◌≡◌, List, length, subst, refl, sym, ap, arith, ◌∙◌}
+use Rattle.std.proofs.Common.{length, subst, ap, arith, ◌∙◌}
 use Rattle.std.specs.List.{AllZip}
 use Rattle.std.proofs.lemmas.List.Elements.{All-from_recursion}
 use Rattle.palm_share.specs.Jobs.{Holds, Relates}

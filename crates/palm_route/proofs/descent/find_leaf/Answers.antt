@@ -1,4 +1,4 @@
-use Rattle.std.proofs.Common.{◌≡◌, ◌∷◌, Some, IsSome, slice_get, refl, sym, ap, subst, arith, ◌∙◌}
+use Rattle.std.proofs.Common.{Some, IsSome, refl, sym, ap, subst, arith, ◌∙◌}
 use Rattle.palm_arena.specs.Reads.{map_of}
 use Rattle.palm_route.proofs.Descents.{stands_first, stands_inner, stands_leaf, stands_next, tree_levels}
 use Rattle.palm_route.proofs.descent.find_leaf.Goals as goal

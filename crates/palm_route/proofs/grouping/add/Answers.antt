@@ -1,6 +1,5 @@
-use Rattle.std.proofs.Common.{◌≡◌, ◌++◌, ◌∷◌, [], List, length, refl, sym, ap, arith, ◌∙◌}
+use Rattle.std.proofs.Common.{◌++◌, ◌∷◌, [], List, refl, ap, arith, ◌∙◌}
 use Rattle.palm_route.specs.declared.part.Group.{Group}
-use Rattle.palm_route.specs.Runs.{with_routed, group_with}
 use Rattle.palm_route.proofs.AddedParts.{last_grows, last_other, set_back, first_alone}
 use Rattle.palm_route.proofs.grouping.add.Goals as goal
 use Rattle.palm_route.proofs.grouping.add.Goals.{in-Some+else-last-routed, in_default}

@@ -1,9 +1,7 @@
-use Rattle.std.proofs.Common.{◌≡◌, List, length, take, drop, subst, refl, sym, ap, ◌++◌, ◌∙◌}
+use Rattle.std.proofs.Common.{◌≡◌, length, subst, ap, ◌∙◌}
 use Rattle.std.specs.List.Sorted.{IsPermutation, IsStableByKey}
 use Rattle.std.specs.Ordering.{nat_cmp}
 use Rattle.std.proofs.lemmas.Result.{IfOk-weaker}
-use Rattle.palm_route.specs.declared.part.Routed.{Routed}
-use Rattle.palm_route.specs.declared.part.Group.{Group}
 use Rattle.palm_route.specs.Runs.{runs_of}
 use Rattle.palm_route.proofs.SortedParts.{low_of, grouped, whole_written}
 use Rattle.palm_route.proofs.grouping.group.Goals as goal
