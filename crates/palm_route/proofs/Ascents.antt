@@ -11,7 +11,7 @@ Ascends low high [] = ⊥
 Ascends low high (place ∷ []) = (place.low ≡ low) × (low < high)
 Ascends low high (place ∷ next ∷ places) = (place.low ≡ low) × (low < next.low) × Ascends next.low high (next ∷ places)
 
-first_low : (low high : ℕ) (place : LeafPlace) (places : List LeafPlace) → Ascends low high (place ∷ places) → place.low ≡ low
+pub first_low : (low high : ℕ) (place : LeafPlace) (places : List LeafPlace) → Ascends low high (place ∷ places) → place.low ≡ low
 first_low low high place [] up = up.0
 first_low low high place (next ∷ places) up = up.0
 

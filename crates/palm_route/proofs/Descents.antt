@@ -132,7 +132,7 @@ stands_next nodes k levels level path low id places inner i low' child s less he
 
 -- ---- the leaves of a tree
 
-tree_ascends : (nodes : NodeId → Option Node) (shape : Shape) → HasTree nodes shape → (high : ℕ) × Ascends 0 high (leaves_at nodes shape)
+pub tree_ascends : (nodes : NodeId → Option Node) (shape : Shape) → HasTree nodes shape → (high : ℕ) × Ascends 0 high (leaves_at nodes shape)
 tree_ascends nodes shape has =
     let range = tree_range nodes shape has in
     (range.high, all_ascend nodes (shape.levels - 1) [] 0 range.high shape.root range.node range.reads-as range.range)

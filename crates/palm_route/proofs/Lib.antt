@@ -5,7 +5,9 @@ pub mod GroupedParts
 pub mod JoinedParts
 pub mod LaterLows
 pub mod LeavesUnder
+pub mod ListLeaves
 pub mod LowWalks
+pub mod PartEdits
 pub mod PartSteps
 pub mod Routings
 pub mod SortedParts

@@ -59,7 +59,7 @@ fn append_low(low: u64, span: &Span, keys: &mut ItemList<u64>) -> Result<(), NoM
 }
 
 // The keys by which a List is routed.
-fn list_span(
+fn span_keys(
     alloc: Global,
     arena: &Arena,
     shape: Shape,
@@ -118,6 +118,7 @@ fn append_fronts(entry: u64, number: &Digits, parts: &mut PartList) -> Result<()
 
 // Appends the parts of a call.
 fn append_call(
+    alloc: Global,
     arena: &Arena,
     shape: Shape,
     entry: u64,
@@ -152,7 +153,7 @@ fn append_call(
                 from: from.key(),
                 to: to.key(),
             };
-            let keys = list_span(arena.allocator(), arena, shape, &span)?;
+            let keys = span_keys(alloc, arena, shape, &span)?;
             append_list(entry, keys.as_slice(), *from, *to, *limit, parts)
         }
     }
@@ -173,7 +174,7 @@ pub fn expand(
 {
     let mut parts = PartList::new(alloc);
     for (place, entry) in batch.iter().enumerate() {
-        append_call(arena, shape, place as u64, &entry.call, &mut parts)?;
+        append_call(alloc, arena, shape, place as u64, &entry.call, &mut parts)?;
     }
     Ok(parts)
 }
