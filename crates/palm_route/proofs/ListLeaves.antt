@@ -1,13 +1,13 @@
 -- The leaves that a List meets, and the keys by which it is routed to them.
-use Rattle.std.proofs.Common.{◌≡◌, ℕ, ◌<◌, ◌≤◌, Bool, true, false, cond, ◌&&◌, leb, ltb, List, [], ◌∷◌, map, filter, Option, Some, refl, sym, ap, arith, ◌∙◌, ◌⊎◌, inl, inr}
+use Rattle.std.proofs.Common.{◌≡◌, ℕ, ◌<◌, ◌≤◌, Bool, true, false, cond, ◌&&◌, leb, ltb, List, [], ◌∷◌, map, filter, Some, refl, ap, arith, ◌⊎◌, inl, inr}
 use Rattle.std.specs.List.{AllByRecursion}
 use Rattle.std.proofs.lemmas.Bool.{cases_lt, lt-ltb, le-ltb, lt-leb, le-leb}
 use Rattle.palm_arena.specs.Leaves.{LeafPlace, leaf_for, leaves_at}
 use Rattle.palm_base.proofs.Every.{every_weaker}
 use Rattle.palm_route.specs.Laws.{ListsMeetLeaves, KeysComeHome}
 use Rattle.palm_route.specs.Meets.{leaves_met, first_key}
-use Rattle.palm_route.specs.Parts.{lows_of, is_later, list_keys}
-use Rattle.palm_route.proofs.Ascents.{Ascends, first_low}
+use Rattle.palm_route.specs.Parts.{lows_of, is_later}
+use Rattle.palm_route.proofs.Ascents.{Ascends}
 use Rattle.palm_route.proofs.Descents.{tree_ascends}
 
 -- A leaf whose range begins above the first key is met by its own low, or not at all.

@@ -1,18 +1,15 @@
 -- The edits among the parts of entries are those among their calls.
-use Rattle.std.proofs.Common.{◌≡◌, ℕ, suc, List, [], ◌∷◌, ◌++◌, cond, filter, refl, sym, ap, ◌∙◌}
-use Rattle.std.specs.List.{AllByRecursion}
-use Rattle.palm_base.specs.Key.{key, digits_of}
+use Rattle.std.proofs.Common.{◌≡◌, ℕ, suc, List, [], ◌∷◌, ◌++◌, filter, refl, ◌∙◌}
+use Rattle.palm_base.specs.Key.{key}
 use Rattle.palm_base.specs.Pass.{is_edit}
 use Rattle.palm_base.specs.History.{calls_of}
 use Rattle.palm_base.proofs.Keys.{digits_of-key}
 use Rattle.palm_base.specs.declared.call.Call.{Call}
 use Rattle.palm_base.specs.declared.call.Call.TheVariants.{Set, Del, Get, Rate, List as Listing}
-use Rattle.palm_base.specs.declared.call.Entry.{Entry}
 use Rattle.palm_arena.specs.Leaves.{LeafPlace}
 use Rattle.palm_route.specs.declared.part.Ask.TheVariants as ask
-use Rattle.palm_route.specs.declared.part.Ask.{Ask}
 use Rattle.palm_route.specs.declared.part.Part.{Part}
-use Rattle.palm_route.specs.Edits.{edit_before, edits_of, EditsPrefix}
+use Rattle.palm_route.specs.Edits.{edits_of, EditsPrefix}
 use Rattle.palm_route.specs.Laws.{PartsKeepEdits}
 use Rattle.palm_route.specs.Parts.{parts_by_keys, parts_of_call, parts_of, front_keys, list_keys, lows_of}
 

@@ -7,6 +7,8 @@ mod expansion;
 mod grouping;
 pub mod laws;
 mod part;
+#[cfg(test)]
+mod tests;
 
 pub use descent::descend;
 pub use expansion::expand;
