@@ -1,6 +1,7 @@
 pub mod Edits
 pub mod Groups
 pub mod Laws
+pub mod Marks
 pub mod Meets
 pub mod Parts
 pub mod Ranges

@@ -1,10 +1,11 @@
 // Parts put together by leaf.
-ghost use Rattle.std.specs.Prelude.{◌≡◌, List, length, map, IfOk, OnOk, IsPermutation, IsSortedByKey};
+ghost use Rattle.std.specs.Prelude.{◌≡◌, ◌<◌, List, length, map, All, IfOk, OnOk, IsPermutation, IsSortedByKey};
 ghost use Rattle.std.specs.List.{AllByRecursion};
 ghost use Rattle.std.specs.List.Sorted.{IsStableByKey};
 ghost use Rattle.std.specs.Ordering.{nat_cmp};
 ghost use Rattle.palm_arena.specs.Leaves.{LeafPlace};
 ghost use Rattle.palm_route.specs.Groups.{IsRoutedTo, LowsRise, groups_of};
+ghost use Rattle.palm_route.specs.Marks.{marks_from, marked};
 ghost use Rattle.palm_route.specs.Runs.{group_with, with_routed, runs_of};
 
 use crate::part::{Group, Groups, PartList, Routed, RoutedList};
@@ -13,6 +14,38 @@ use palm_node::ItemList;
 use rayon::prelude::*;
 use std::alloc::{AllocError, Global};
 use std::thread::Threads;
+
+// Where a part stands, and where the range of its leaf begins. Marks are sorted in place of parts, which are many times as
+// wide.
+#[derive(Clone, Copy, Drop)]
+struct Mark {
+    low: u64,
+    place: usize,
+}
+
+// The marks of parts, in the order of the parts.
+fn marks_of(alloc: Global, routed: &[Routed]) -> Result<Vec<Mark>, NoMemory>
+    ensures { IfOk result (λ marks. marks.items ≡ marks_from 0 routed.now) }
+{
+    let mut marks = Vec::new(alloc);
+    for (place, one) in routed.iter().enumerate() {
+        marks.push(Mark {
+            low: one.low,
+            place,
+        })?;
+    }
+    Ok(marks)
+}
+
+// Sorts marks by leaf, and keeps those of a leaf in their order.
+fn sort<R: Threads + Sync>(rt: &R, alloc: Global, marks: &mut [Mark]) -> Result<(), AllocError>
+    ensures len { length marks.new ≡ length marks.old }
+    ensures permutation { IsPermutation marks.old marks.new }
+    ensures sorted { OnOk result (IsSortedByKey (λ mark. mark.low) nat_cmp marks.new) }
+    ensures stable { IsStableByKey (λ mark. mark.low) nat_cmp marks.old marks.new }
+{
+    par_sort_by_key(rt, alloc, marks, |mark| mark.low)
+}
 
 // A group of one part.
 fn group_of(alloc: Global, routed: Routed) -> Result<Group, NoMemory>
@@ -48,25 +81,23 @@ fn add(alloc: Global, groups: &mut Vec<Group>, routed: Routed) -> Result<(), NoM
     Ok(())
 }
 
-// Puts parts together that come leaf by leaf.
-fn runs(alloc: Global, routed: Vec<Routed>) -> Result<Groups, NoMemory>
-    ensures { IfOk result (λ groups. groups ≡ runs_of routed.items) }
+// A routed part once more, for its group.
+fn copy_of(routed: &Routed) -> Result<Routed, NoMemory>
+    ensures { IfOk result (λ copy. copy ≡ routed.now) }
 {
-    let mut groups = Vec::new(alloc);
-    for one in routed {
-        add(alloc, &mut groups, one)?;
-    }
-    Ok(ItemList::from_vec(groups))
+    Ok(routed.clone()?)
 }
 
-// Sorts parts by leaf, and keeps those of a leaf in their order.
-fn sort<R: Threads + Sync>(rt: &R, alloc: Global, routed: &mut [Routed]) -> Result<(), AllocError>
-    ensures len { length routed.new ≡ length routed.old }
-    ensures permutation { IsPermutation routed.old routed.new }
-    ensures sorted { OnOk result (IsSortedByKey (λ one. one.low) nat_cmp routed.new) }
-    ensures stable { IsStableByKey (λ one. one.low) nat_cmp routed.old routed.new }
+// Puts parts together in the order of these marks, which come leaf by leaf.
+fn runs(alloc: Global, routed: &[Routed], marks: &[Mark]) -> Result<Groups, NoMemory>
+    requires inside { All (λ mark. mark.place < length routed.now) marks.now }
+    ensures { IfOk result (λ groups. groups ≡ runs_of (map (marked routed.now) marks.now)) }
 {
-    par_sort_by_key(rt, alloc, routed, |one| one.low)
+    let mut groups = Vec::new(alloc);
+    for mark in marks {
+        add(alloc, &mut groups, copy_of(&routed[mark.place])?)?;
+    }
+    Ok(ItemList::from_vec(groups))
 }
 
 /// Puts routed parts together by leaf. The groups stand in the order of the leaves, and the parts of a group in the order in
@@ -78,7 +109,7 @@ pub fn group<R: Threads + Sync>(
 ) -> Result<Groups, NoMemory>
     ensures { IfOk result (λ groups. (places : List LeafPlace) → LowsRise places → AllByRecursion (IsRoutedTo places) routed → groups ≡ groups_of places (map (λ one. one.part) routed)) }
 {
-    let mut sorted = routed.into_vec();
-    sort(rt, alloc, sorted.as_mut_slice())?;
-    runs(alloc, sorted)
+    let mut marks = marks_of(alloc, routed.as_slice())?;
+    sort(rt, alloc, marks.as_mut_slice())?;
+    runs(alloc, routed.as_slice(), marks.as_slice())
 }

@@ -1,7 +1,8 @@
-use Rattle.std.proofs.Common.{◌≡◌}
+use Rattle.std.proofs.Common.{◌≡◌, map, take}
+use Rattle.palm_route.specs.Marks.{marked}
 use Rattle.palm_route.specs.Runs.{runs_of}
 use Rattle.palm_route.proofs.grouping.runs.Given as goal
 
--- the parts so far are put together
-abbrev pub invariant-loop-one : goal.invariant-loop-one
-invariant-loop-one l = l.groups.items ≡ runs_of l.yielded
+-- the marked parts so far are put together
+abbrev pub invariant-loop-mark : goal.invariant-loop-mark
+invariant-loop-mark l = l.groups.items ≡ runs_of (map (marked l.routed) (take l.mark-index l.marks))
