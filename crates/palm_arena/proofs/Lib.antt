@@ -4,6 +4,7 @@ pub mod Marks
 pub mod Undoing
 pub mod Keeping
 pub mod Putting
+pub mod Readings
 pub mod Seeing
 pub mod Standing
 pub mod CellLists

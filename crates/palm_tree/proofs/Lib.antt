@@ -15,6 +15,5 @@ pub mod Lists
 pub mod NewNodes
 pub mod PieceReads
 pub mod Ranges
-pub mod Readings
 pub mod Standing
 pub mod Values
