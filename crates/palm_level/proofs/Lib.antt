@@ -1,0 +1,4 @@
+mod CutSteps
+mod LaterParts
+mod Rising
+mod Splicing

@@ -1,0 +1,7 @@
+//! A pass of edits over the tree goes up level by level: the inner nodes of a level whose children changed are made anew
+//! over what stands for those children.
+#![tactic(auto)]
+
+mod node_work;
+#[cfg(test)]
+mod tests;
