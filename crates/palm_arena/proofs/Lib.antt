@@ -6,5 +6,3 @@ pub mod Keeping
 pub mod Putting
 pub mod Seeing
 pub mod Standing
-pub mod CellLists
-pub mod ListParts
