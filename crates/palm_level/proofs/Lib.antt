@@ -1,4 +1,11 @@
+mod Bare
 mod CutSteps
+mod Families
 mod LaterParts
+mod Parent
 mod Rising
+mod Running
+mod SoundSites
 mod Splicing
+mod Split
+mod Within

@@ -1,2 +1,5 @@
+pub mod Families
+pub mod Groups
+pub mod Runs
 pub mod Splices
 pub mod Works

@@ -1,5 +1,4 @@
-use Rattle.std.proofs.Common.{arith, ap, ◌∙◌, sym, subst, ◌≡◌, ◌≤◌, ◌+◌, ◌<◌, length, take, drop, rules, refl}
-use Rattle.palm_base.specs.Cut.{piece_count}
+use Rattle.std.proofs.Common.{arith, ap, ◌∙◌, sym, subst, ◌≤◌, ◌+◌, ◌<◌, length, take, refl}
 use Rattle.palm_base.specs.declared.bounds.TheConstants.{MOST_CHILDREN}
 use Rattle.std.specs.List.Sorted.{IsStrictlyIncreasing}
 use Rattle.palm_level.specs.Splices.{later_lows}

@@ -1,4 +1,4 @@
-use Rattle.std.proofs.Common.{◌≡◌, ◌+◌, ◌≤◌}
+use Rattle.std.proofs.Common.{◌≡◌, ◌+◌}
 use Rattle.std.specs.Vec.{vec_len, vec_capacity}
 use Rattle.palm_level.proofs.LaterParts.{PartsSoFar}
 use Rattle.palm_level.proofs.node_work.cut_later.Given as goal

@@ -1,10 +1,10 @@
-use Rattle.std.proofs.Common.{arith, ap, ◌∙◌, sym, subst, ◌≡◌, ◌≤◌, length, take, map, drop, rules, eqb-true, []}
+use Rattle.std.proofs.Common.{arith, ap, ◌∙◌, sym, subst, ◌≤◌, take, map, drop, eqb-true}
 use Rattle.std.specs.Vec.{vec_len}
 use Rattle.std.proofs.lemmas.List.{length-take-le}
 use Rattle.palm_base.specs.Cut.{cut, piece_size}
 use Rattle.palm_base.specs.declared.bounds.TheConstants.{MOST_CHILDREN}
-use Rattle.palm_level.specs.Splices.{later_lows, inner_over, children_left}
-use Rattle.palm_level.specs.Works.{Rise, first_node, part_over, parts_left}
+use Rattle.palm_level.specs.Splices.{later_lows, children_left}
+use Rattle.palm_level.specs.Works.{first_node, part_over}
 use Rattle.palm_level.proofs.LaterParts.{no_parts, first_fits, some_item, parts_made}
 use Rattle.palm_level.proofs.Rising.{rise_increasing}
 use Rattle.palm_level.proofs.node_work.rework.Goals as goal
