@@ -4,6 +4,7 @@ mod Families
 mod LaterParts
 mod Parent
 mod Rising
+mod RunFronts
 mod Running
 mod SoundSites
 mod Splicing

@@ -74,7 +74,7 @@ own_next node from i low id inner less is at =
 -- ---- one change more
 
 -- The change at a place comes first of those from there on.
-drop_at : (changes : List Change) (n : ℕ) (change : Change) → n < length changes → change ≡ get_or changes n change → drop n changes ≡ change ∷ drop (n + 1) changes
+pub drop_at : (changes : List Change) (n : ℕ) (change : Change) → n < length changes → change ≡ get_or changes n change → drop n changes ≡ change ∷ drop (n + 1) changes
 drop_at changes n change less at =
     let e : n + 1 ≡ suc n = omega arith in
     let here : get_or changes n change ≡ change = sym at in

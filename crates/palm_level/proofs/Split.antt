@@ -101,7 +101,7 @@ runs_begin x xs = by (runs xs)
         if_same true = refl
         if_same false = refl
 
-abbrev Apart : NodeId → List Change → Type 0
+abbrev pub Apart : NodeId → List Change → Type 0
 Apart id [] = Unit {0}
 Apart id (x ∷ xs) = id ≢ parent_of x
 

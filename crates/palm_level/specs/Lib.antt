@@ -1,5 +1,6 @@
 pub mod Families
 pub mod Groups
+pub mod Plans
 pub mod Runs
 pub mod Splices
 pub mod Works

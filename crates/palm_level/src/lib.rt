@@ -3,5 +3,6 @@
 #![tactic(auto)]
 
 mod node_work;
+mod plan;
 #[cfg(test)]
 mod tests;
