@@ -3,4 +3,5 @@ pub mod Groups
 pub mod Plans
 pub mod Runs
 pub mod Splices
+pub mod Tasks
 pub mod Works

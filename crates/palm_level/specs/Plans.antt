@@ -58,3 +58,6 @@ pub record Fits (nodes : NodeId → Option Node) (run : List Change) : Type 0 wh
 pub record IsPlanned (nodes : NodeId → Option Node) (planned : Planned) : Type 0 where
   pub can : CanWork nodes planned.parent.node planned.parent.changes.now
   pub room : IsRoomAt nodes planned.parent.node planned.parent.changes.now planned.room
+
+abbrev pub planned_key : Planned → Touched
+planned_key planned = touched_by planned.parent

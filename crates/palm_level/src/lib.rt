@@ -4,5 +4,6 @@
 
 mod node_work;
 mod plan;
+mod task;
 #[cfg(test)]
 mod tests;

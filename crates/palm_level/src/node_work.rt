@@ -11,7 +11,6 @@ ghost use Rattle.palm_level.specs.Works.{Rise, part_over, first_node, parts_left
 use arrayvec::ArrayVec;
 use palm_arena::Lease;
 use palm_base::MOST_CHILDREN;
-use palm_share::Job;
 use palm_node::{Change, Inner, Node, NodeId, Path, Piece, piece_size, pieces};
 
 /// A later node of those that stand for one: its low bound, and the node, which has no id yet.
@@ -171,12 +170,12 @@ pub struct LevelWork<'a> {
     pub later: Vec<Part>,
 }
 
-impl Job for LevelWork<'_> {
-    ghost ready = { λ work. IsReady work };
-
-    ghost ran = { λ before after. HasRun before after };
-
-    fn run(&mut self) {
+impl LevelWork<'_> {
+    /// Makes the node in the lease anew, over what stands for its children.
+    pub fn run(&mut self)
+        requires { IsReady self.old }
+        ensures { HasRun self.old self.new }
+    {
         let Node::Inner(inner) = self.lease.node_mut() else {
             unreachable!()
         };

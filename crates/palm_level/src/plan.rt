@@ -10,7 +10,7 @@ ghost use Rattle.palm_level.specs.Splices.{last_step, path_above, children_left,
 ghost use Rattle.palm_level.specs.Works.{CanSplice};
 ghost use Rattle.palm_level.specs.Runs.{parent_of, runs};
 ghost use Rattle.palm_level.specs.Groups.{touched_of, is_alone, is_still, low_at};
-ghost use Rattle.palm_level.specs.Plans.{Fits, IsInnerAt, CanWork, IsRoomAt, touched_by, piece_total, HasRoom, IsPlanned};
+ghost use Rattle.palm_level.specs.Plans.{Fits, IsInnerAt, CanWork, IsRoomAt, planned_key, touched_by, piece_total, HasRoom, IsPlanned};
 
 use crate::node_work::{Part, last_step_of, low_of_child};
 use palm_arena::Arena;
@@ -168,4 +168,27 @@ fn find_parent<'a>(arena: &Arena, run: &'a [Change]) -> Parent<'a>
         path,
         changes: run,
     }
+}
+
+/// The parents of the changes, each with the room to make it anew, in order.
+pub fn plan_all<'a>(
+    alloc: Global,
+    arena: &Arena,
+    changes: &'a [Change],
+) -> Result<Vec<Planned<'a>>, NoMemory>
+    requires paths { AllByRecursion (λ change. 0 < length change.path) changes.now }
+    requires fits { AllByRecursion (Fits (map_of arena.now.places)) (runs changes.now) }
+    ensures parents { IfOk result (λ planned. map planned_key planned.items ≡ map (touched_of (map_of arena.now.places)) (runs changes.now)) }
+    ensures planned { IfOk result (λ planned. AllByRecursion (IsPlanned (map_of arena.now.places)) planned.items) }
+{
+    let mut planned = Vec::new(alloc);
+    let mut rest = changes;
+    while !rest.is_empty() {
+        let (run, after) = rest.split_at(run_length(rest));
+        let parent = find_parent(arena, run);
+        let room = plan_room(alloc, arena, parent.node, run)?;
+        planned.push(Planned { parent, room })?;
+        rest = after;
+    }
+    Ok(planned)
 }

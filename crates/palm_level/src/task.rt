@@ -1,0 +1,67 @@
+// The work on the touched nodes of a level: their nodes are lent, made anew beside each other, and given back.
+ghost use Rattle.std.specs.Prelude.{◌≡◌, ◌+◌, ◌<◌, ◌≤◌, ◌++◌, ◌∷◌, [], length, drop, map, reverse, sum_by, Some, None, IsSome, is_some, IfOk, OnOk, OnErr};
+ghost use Rattle.std.specs.List.{flat_map, AllByRecursion};
+ghost use Rattle.std.specs.Vec.{vec_len, vec_capacity};
+ghost use Rattle.palm_base.specs.Pass.{is_small};
+ghost use Rattle.palm_base.specs.declared.bounds.TheConstants.{LEAST_CHILDREN};
+ghost use Rattle.palm_node.specs.declared.node.Node.{Node};
+ghost use Rattle.palm_node.specs.declared.id.NodeId.{NodeId};
+ghost use Rattle.palm_arena.specs.ArenaState.{place_at, IsLent, NoneLent};
+ghost use Rattle.palm_arena.specs.Reads.{map_of};
+ghost use Rattle.palm_arena.specs.Cells.{Turns};
+ghost use Rattle.palm_level.specs.Groups.{touched_of, is_still};
+ghost use Rattle.palm_level.specs.Plans.{IsPlanned, planned_key, touched_by};
+ghost use Rattle.palm_level.specs.Tasks.{Starts, IsThere, LentTo, ComesHome, TaskIsReady, TaskIsDone, WorkIsReady, WorkIsDone, WorkMayRun, TaskRan, task_key, lent_of, times_worked, lent_at, Finishes};
+
+use crate::node_work::{LevelWork, Part};
+use crate::plan::{Parent, Planned};
+use palm_arena::{Arena, Lease};
+use palm_base::{LEAST_CHILDREN, NoMemory, Steps};
+use palm_node::{Change, Changes, Node, NodeId, Piece, PieceList, Removed, RemovedList};
+use palm_share::Job;
+use std::alloc::Global;
+use std::sync::ledger::Ledger;
+
+/// The work on a node whose children changed, with its lease where it is made anew.
+pub struct Task<'a> {
+    pub parent: Parent<'a>,
+    pub work: Option<LevelWork<'a>>,
+}
+
+impl Job for Task<'_> {
+    ghost ready = { λ task. WorkMayRun task.work };
+
+    ghost ran = { λ before after. TaskRan before after };
+
+    fn run(&mut self) {
+        if let Some(work) = &mut self.work {
+            work.run();
+        }
+    }
+}
+
+// Lends the node of a parent that is made anew.
+fn start<'a, L: Ledger>(
+    arena: &mut Arena,
+    planned: Planned<'a>,
+    steps: &mut Steps<L>,
+) -> Result<Task<'a>, NoMemory>
+    requires under_way { IsSome arena.old.begun }
+    requires there { IsThere arena.old.places planned planned.room }
+    ensures ok { IfOk result (λ task. Starts planned.entry arena.old arena.new task) }
+    ensures err { OnErr result (arena.new ≡ arena.old) }
+    ensures ticks { steps.new ≤ steps.old + 1 }
+    ensures moved { length arena.new.moved + steps.old ≤ length arena.old.moved + steps.new }
+{
+    let Planned { parent, room } = planned;
+    let work = match room {
+        None => None,
+        Some(room) => Some(LevelWork {
+            lease: arena.lend(parent.node, steps)?,
+            changes: parent.changes,
+            children: room.children,
+            later: room.later,
+        }),
+    };
+    Ok(Task { parent, work })
+}
