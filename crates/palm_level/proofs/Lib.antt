@@ -3,10 +3,12 @@ mod CutSteps
 mod Families
 mod LaterParts
 mod Parent
+mod PuttingBack
 mod Rising
 mod RunFronts
 mod Running
 mod SoundSites
 mod Splicing
 mod Split
+mod Taking
 mod Within

@@ -11,13 +11,14 @@ use Rattle.palm_node.specs.declared.change.Changes.{Changes}
 use Rattle.palm_node.specs.declared.change.Removed.{Removed}
 use Rattle.palm_arena.specs.declared.place.Place.{Place}
 use Rattle.palm_arena.specs.declared.place.Place.TheVariants.{Empty, Lent, Holds}
-use Rattle.palm_arena.specs.ArenaState.{ArenaState, place_at, node_at, with_place}
+use Rattle.palm_arena.specs.ArenaState.{ArenaState, IsLent, place_at, node_at, with_place}
 use Rattle.palm_arena.specs.Reads.{map_of, same_place}
 use Rattle.palm_arena.specs.Cells.{Cell, Turns}
 use Rattle.palm_level.specs.Splices.{children_left}
 use Rattle.palm_level.specs.Works.{CanSplice, IsReady, HasRun, first_node, parts_left, part_over}
-use Rattle.palm_level.specs.Groups.{Touched, Group, touched_of, is_still, group_nodes, cells_before, cells_after, group_change, group_removed}
+use Rattle.palm_level.specs.Groups.{Touched, Group, cells_at, named_pieces, touched_of, is_still, group_nodes, cells_before, cells_after, group_change, group_removed}
 use Rattle.palm_level.specs.Plans.{CanWork, touched_by}
+use Rattle.palm_level.specs.declared.node_work.Part.{Part}
 use Rattle.palm_level.specs.declared.node_work.LevelWork.{LevelWork}
 use Rattle.palm_level.specs.declared.plan.Planned.{Planned}
 use Rattle.palm_level.specs.declared.plan.Room.{Room}
@@ -166,3 +167,47 @@ pub record Finishes (nodes : NodeId → Option Node) (level : ℕ) (touched : To
   pub changed : after.nodes ≡ before.nodes ++ change_for group ∷ []
   pub removed : after.removed ≡ before.removed ++ removed_for level group
   pub loose : after.loose ≡ before.loose
+
+-- ---- giving back
+
+-- A node and its low, of a later part.
+abbrev pub as_node : Part → ℕ × InnerNode
+as_node part = (part.low, part.node)
+
+-- Parts took ids, and were listed as pieces.
+pub record Took (old new : ArenaState) (before after : List Piece) (parts : List Part) : Type 0 where
+  pub ids : List NodeId
+  pub many : length ids ≡ length parts
+  pub pieces : after ≡ before ++ named_pieces ids (map as_node parts)
+  pub turns : Turns (map_of old.places) (map_of new.places) [] (cells_at ids (map as_node parts))
+
+-- As many places are lent as before, each the same.
+abbrev pub SameLent : List Place → List Place → Type 0
+SameLent old new = (id : NodeId) → lent_at (place_at new id) ≡ lent_at (place_at old id)
+
+-- A work has made this node anew over what stands for these changes.
+pub record MadeOf (node : InnerNode) (changes : List Change) (work : LevelWork) : Type 0 where
+  pub own : work.lease.node ≡ Inner (first_node node (parts_left node changes))
+  pub children : work.children.items ≡ children_left node changes
+  pub later : work.later.items ≡ map part_over (drop 1 (parts_left node changes))
+
+-- A group's node was put back, with what is left of it under its ids.
+pub record PutsBack (level : ℕ) (group : Group) (old new : ArenaState) (before after : List Removed) (pieces : List Piece) : Type 0 where
+  pub many : length group.ids ≡ length (group_nodes group)
+  pub turns : Turns (map_of old.places) (map_of new.places) [] (cells_after group)
+  pub pieces-are : pieces ≡ named_pieces group.ids (group_nodes group)
+  pub removed : after ≡ before ++ group_removed level group
+
+-- Whatever it was that the work made anew, it is put back.
+abbrev pub PutsBackAny : ℕ → ℕ → LevelWork → ArenaState → ArenaState → List Removed → List Removed → List Piece → Type 0
+PutsBackAny level low work old new before after pieces =
+    (node : InnerNode) (changes : List Change) (path : List (NodeId × ℕ)) → MadeOf node changes work
+    → (ids : List NodeId) × PutsBack level (record { touched = record { id = work.lease.id; path = path; low = low; changes = changes }; node = node; ids = ids }) old new before after pieces
+
+abbrev pub later_count : Option LevelWork → ℕ
+later_count None = 0
+later_count (Some work) = length work.later.items
+
+abbrev pub WorkIsLent : List Place → Option LevelWork → Type 0
+WorkIsLent places None = Unit {0}
+WorkIsLent places (Some work) = IsLent places work.lease.id

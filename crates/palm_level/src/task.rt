@@ -11,7 +11,7 @@ ghost use Rattle.palm_arena.specs.Reads.{map_of};
 ghost use Rattle.palm_arena.specs.Cells.{Turns};
 ghost use Rattle.palm_level.specs.Groups.{touched_of, is_still};
 ghost use Rattle.palm_level.specs.Plans.{IsPlanned, planned_key, touched_by};
-ghost use Rattle.palm_level.specs.Tasks.{Starts, IsThere, LentTo, ComesHome, TaskIsReady, TaskIsDone, WorkIsReady, WorkIsDone, WorkMayRun, TaskRan, task_key, lent_of, times_worked, lent_at, Finishes};
+ghost use Rattle.palm_level.specs.Tasks.{Took, SameLent, PutsBackAny, later_count, WorkIsLent, Starts, IsThere, LentTo, ComesHome, TaskIsReady, TaskIsDone, WorkIsReady, WorkIsDone, WorkMayRun, TaskRan, task_key, lent_of, times_worked, lent_at, Finishes};
 
 use crate::node_work::{LevelWork, Part};
 use crate::plan::{Parent, Planned};
@@ -64,4 +64,73 @@ fn start<'a, L: Ledger>(
         }),
     };
     Ok(Task { parent, work })
+}
+
+// Whether so few children are left that their node goes.
+fn is_few(children: &[Piece]) -> bool
+    ensures { result ≡ is_small LEAST_CHILDREN children.now }
+{
+    !children.is_empty() && children.len() < LEAST_CHILDREN
+}
+
+// Takes ids for the later nodes that stand for one, and lists them.
+fn take_later<L: Ledger>(
+    arena: &mut Arena,
+    later: Vec<Part>,
+    pieces: &mut PieceList,
+    steps: &mut Steps<L>,
+) -> Result<(), NoMemory>
+    requires { IsSome arena.old.begun }
+    ensures ok { OnOk result (Took arena.old arena.new pieces.old pieces.new later.items) }
+    ensures same_lent { SameLent arena.old.places arena.new.places }
+    ensures begun { arena.new.begun ≡ arena.old.begun }
+    ensures ticks { steps.new ≤ steps.old + vec_len later }
+    ensures moved { length arena.new.moved + steps.old ≤ length arena.old.moved + steps.new }
+{
+    for part in later {
+        let id = arena.take(Node::Inner(part.node), steps)?;
+        pieces.push(Piece { low: part.low, id })?;
+    }
+    Ok(())
+}
+
+// Gives a node back that was made anew, and gives the pieces that stand for it: it is dropped where no child is left, and
+// removed where few are, so that no piece stands for it.
+fn put_back<L: Ledger>(
+    alloc: Global,
+    arena: &mut Arena,
+    low: u64,
+    level: u32,
+    work: LevelWork<'_>,
+    removed: &mut RemovedList,
+    steps: &mut Steps<L>,
+) -> Result<PieceList, NoMemory>
+    requires under_way { IsSome arena.old.begun }
+    requires lent { IsLent arena.old.places work.lease.id }
+    ensures ok { IfOk result (λ pieces. PutsBackAny level low work.entry arena.old arena.new removed.old removed.new pieces) }
+    ensures home { ComesHome arena.old.places arena.new.places (Some work.entry) }
+    ensures begun { arena.new.begun ≡ arena.old.begun }
+    ensures ticks { steps.new ≤ steps.old + vec_len work.entry.later }
+    ensures moved { length arena.new.moved + steps.old ≤ length arena.old.moved + steps.new }
+{
+    let LevelWork {
+        lease,
+        changes: _,
+        children,
+        later,
+    } = work;
+    let id = lease.id();
+    arena.give_back(lease);
+    let mut pieces = PieceList::new(alloc);
+    if children.is_empty() {
+        arena.drop_node(id)?;
+        return Ok(pieces);
+    }
+    if is_few(&children) {
+        removed.push(Removed { level, id })?;
+        return Ok(pieces);
+    }
+    pieces.push(Piece { low, id })?;
+    take_later(arena, later, &mut pieces, steps)?;
+    Ok(pieces)
 }
