@@ -1,6 +1,7 @@
 mod Bare
 mod CutSteps
 mod Families
+mod Finishing
 mod LaterParts
 mod Parent
 mod PuttingBack

@@ -1,5 +1,5 @@
 -- The work on the touched nodes of a level, while their nodes are lent, and what it comes to.
-use Rattle.std.specs.Prelude.{◌≡◌, ◌+◌, ◌-◌, ◌≤◌, ℕ, Bool, true, false, if◌then◌else◌, List, [], ◌∷◌, ◌++◌, length, map, drop, sum_by, Option, None, Some, IsSome}
+use Rattle.std.specs.Prelude.{◌≡◌, ◌+◌, ◌-◌, ◌≤◌, ℕ, Bool, true, false, if◌then◌else◌, List, [], ◌∷◌, ◌++◌, length, map, drop, reverse, sum_by, ◌≢◌, Option, None, Some, IsSome}
 use Rattle.std.specs.List.{flat_map, AllByRecursion}
 use Rattle.palm_node.specs.InnerNode.{InnerNode}
 use Rattle.palm_node.specs.declared.id.NodeId.{NodeId}
@@ -17,7 +17,7 @@ use Rattle.palm_arena.specs.Cells.{Cell, Turns}
 use Rattle.palm_level.specs.Splices.{children_left}
 use Rattle.palm_level.specs.Works.{CanSplice, IsReady, HasRun, first_node, parts_left, part_over}
 use Rattle.palm_level.specs.Groups.{Touched, Group, cells_at, named_pieces, touched_of, is_still, group_nodes, cells_before, cells_after, group_change, group_removed}
-use Rattle.palm_level.specs.Plans.{CanWork, touched_by}
+use Rattle.palm_level.specs.Plans.{CanWork, IsPlanned, touched_by, planned_key}
 use Rattle.palm_level.specs.declared.node_work.Part.{Part}
 use Rattle.palm_level.specs.declared.node_work.LevelWork.{LevelWork}
 use Rattle.palm_level.specs.declared.plan.Planned.{Planned}
@@ -211,3 +211,69 @@ later_count (Some work) = length work.later.items
 abbrev pub WorkIsLent : List Place → Option LevelWork → Type 0
 WorkIsLent places None = Unit {0}
 WorkIsLent places (Some work) = IsLent places work.lease.id
+
+-- Whatever the map was in which the task's work is done, it is finished.
+abbrev pub FinishesAny : ℕ → Task → ArenaState → ArenaState → Changes → Changes → Type 0
+FinishesAny level task old new before after =
+    (nodes : NodeId → Option Node) → TaskIsDone nodes (Some task) → Finishes nodes level (touched_by task.parent) old new before after
+
+-- ---- all tasks
+
+abbrev pub planned_id : Planned → NodeId
+planned_id planned = planned.parent.node
+
+-- No id stands there twice.
+abbrev pub Distinct : List NodeId → Type 0
+Distinct [] = Unit {0}
+Distinct (id ∷ ids) = AllByRecursion (λ other. id ≢ other) ids × Distinct ids
+
+-- All that was planned is lent: the tasks are those of the parents, the last first, and may run; their nodes left the map.
+pub record HasLent (old new : ArenaState) (planned : List Planned) (tasks : List (Option Task)) : Type 0 where
+  pub keys : reverse (map task_key tasks) ≡ map planned_key planned
+  pub ready : AllByRecursion (TaskIsReady (map_of old.places)) tasks
+  pub turns : Turns (map_of old.places) (map_of new.places) (flat_map (lent_of (map_of old.places)) (map task_key tasks)) []
+
+abbrev pub IsTask : Option Task → Type 0
+IsTask None = ⊥
+IsTask (Some task) = Unit {0}
+
+abbrev pub later_of : Option Task → ℕ
+later_of None = 0
+later_of (Some task) = later_count task.work
+
+-- All tasks are finished, the last first.
+pub record FinishesAll (nodes : NodeId → Option Node) (level : ℕ) (old new : ArenaState) (tasks : List (Option Task)) (before after : Changes) : Type 0 where
+  pub groups : List Group
+  pub are : reverse (map (λ group. group.touched) groups) ≡ map task_key tasks
+  pub are-groups : AllByRecursion (IsGroup nodes) groups
+  pub turns : Turns (map_of old.places) (map_of new.places) [] (flat_map made_for groups)
+  pub changed : after.nodes ≡ before.nodes ++ map change_for groups
+  pub removed : after.removed ≡ before.removed ++ flat_map (removed_for level) groups
+  pub loose : after.loose ≡ before.loose
+
+abbrev pub HasFinished : ℕ → ArenaState → ArenaState → List (Option Task) → Changes → Changes → Type 0
+HasFinished level old new tasks before after =
+    (nodes : NodeId → Option Node) → AllByRecursion (TaskIsDone nodes) tasks → FinishesAll nodes level old new tasks before after
+
+abbrev pub TaskIsLent : List Place → Option Task → Type 0
+TaskIsLent places None = Unit {0}
+TaskIsLent places (Some task) = WorkIsLent places task.work
+
+abbrev pub TaskComesHome : List Place → List Place → Option Task → Type 0
+TaskComesHome old new task = (id : NodeId) → lent_at (place_at new id) + times_in id task ≡ lent_at (place_at old id)
+
+-- ---- what stands for one node
+
+-- The arena after a node was given back, and the pieces that stand for it.
+pub record StandsFor (nodes : NodeId → Option Node) (level : ℕ) (touched : Touched) (old new : ArenaState) (before after : List Removed) (pieces : List Piece) : Type 0 where
+  pub group : Group
+  pub is : group.touched ≡ touched
+  pub is-group : IsGroup nodes group
+  pub turns : Turns (map_of old.places) (map_of new.places) [] (made_for group)
+  pub pieces-are : record { node = touched.id; path = touched.path; pieces = pieces } ≡ change_for group
+  pub removed : after ≡ before ++ removed_for level group
+
+abbrev pub StandsForAny : ℕ → ℕ → NodeId → Option LevelWork → ArenaState → ArenaState → List Removed → List Removed → List Piece → Type 0
+StandsForAny level low id work old new before after pieces =
+    (nodes : NodeId → Option Node) (path : List (NodeId × ℕ)) (changes : List Change) → CanWork nodes id changes → WorkIsDone nodes id changes work
+    → StandsFor nodes level (record { id = id; path = path; low = low; changes = changes }) old new before after pieces
