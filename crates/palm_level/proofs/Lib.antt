@@ -3,6 +3,7 @@ mod CutSteps
 mod Families
 mod Finishing
 mod LaterParts
+mod Lending
 mod Parent
 mod PuttingBack
 mod Rising

@@ -45,7 +45,7 @@ held_unlent places id node held = by (place_at places id) held
     by Lent held = absurd cc
     by (Holds other) held = refl
 
-times_own : (id : NodeId) → times_if (same_place id id) ≡ 1
+pub times_own : (id : NodeId) → times_if (same_place id id) ≡ 1
 times_own id = ap times_if (eq-eqb id.place id.place refl)
 
 pub times_other : (id other : NodeId) → other ≢ id → times_if (same_place id other) ≡ 0
