@@ -211,3 +211,13 @@ all_lent a b all left tasks far none = record {
   ready = far.ready;
   turns = far.turns;
 }
+
+-- A start leaves what the batch began with.
+pub starts_begun : (next : Planned) (b c : ArenaState) (task : Task) → Starts next b c task → c.begun ≡ b.begun
+starts_begun next b c task starts = by next.room task.work starts.work
+  where
+    by : (room : Option Room) (work : Option LevelWork) → WorkStarts next b c room work → c.begun ≡ b.begun
+    by None None same = ap (λ (s : ArenaState). s.begun) same
+    by None (Some w) never = absurd never
+    by (Some room) None never = absurd never
+    by (Some room) (Some w) (id_is, held, changes, children, later, is_c) = ap (λ (s : ArenaState). s.begun) is_c
