@@ -1,5 +1,6 @@
 mod Bare
 mod CutSteps
+mod Ending
 mod Families
 mod Finishing
 mod LaterParts

@@ -12,7 +12,7 @@ use Rattle.palm_node.specs.declared.change.Removed.{Removed}
 use Rattle.palm_arena.specs.declared.place.Place.{Place}
 use Rattle.palm_arena.specs.declared.place.Place.TheVariants.{Empty, Lent, Holds}
 use Rattle.palm_arena.specs.ArenaState.{ArenaState, IsLent, place_at, node_at, with_place}
-use Rattle.palm_arena.specs.Reads.{map_of, same_place}
+use Rattle.palm_arena.specs.Reads.{map_of, inner_in, same_place}
 use Rattle.palm_arena.specs.Cells.{Cell, Turns}
 use Rattle.palm_level.specs.Splices.{children_left}
 use Rattle.palm_level.specs.Works.{CanSplice, IsReady, HasRun, first_node, parts_left, part_over}
@@ -277,3 +277,23 @@ abbrev pub StandsForAny : ℕ → ℕ → NodeId → Option LevelWork → ArenaS
 StandsForAny level low id work old new before after pieces =
     (nodes : NodeId → Option Node) (path : List (NodeId × ℕ)) (changes : List Change) → CanWork nodes id changes → WorkIsDone nodes id changes work
     → StandsFor nodes level (record { id = id; path = path; low = low; changes = changes }) old new before after pieces
+
+-- ---- the whole level
+
+-- How many nodes a parent takes past the one that keeps its id.
+abbrev pub spare_in : Option InnerNode → List Change → ℕ
+spare_in None changes = 0
+spare_in (Some node) changes = length (drop 1 (parts_left node changes))
+
+abbrev pub spare_of : (NodeId → Option Node) → Touched → ℕ
+spare_of nodes touched = let spare = spare_in (inner_in (nodes touched.id)) touched.changes in if is_still touched.changes then 0 else spare
+
+-- All parents are worked on: what stood for them in the map gave way to what stands for them now, and they are listed.
+pub record HasWorked (nodes : NodeId → Option Node) (level : ℕ) (touched : List Touched) (new : NodeId → Option Node) (before after : Changes) : Type 0 where
+  pub groups : List Group
+  pub are : map (λ group. group.touched) groups ≡ touched
+  pub are-groups : AllByRecursion (IsGroup nodes) groups
+  pub turns : Turns nodes new (flat_map lent_for groups) (flat_map made_for groups)
+  pub changed : after.nodes ≡ before.nodes ++ map change_for groups
+  pub removed : after.removed ≡ before.removed ++ flat_map (removed_for level) groups
+  pub loose : after.loose ≡ before.loose

@@ -2,8 +2,11 @@
 //! over what stands for those children.
 #![tactic(auto)]
 
+mod level;
 mod node_work;
 mod plan;
 mod task;
 #[cfg(test)]
 mod tests;
+
+pub use level::change_level;
