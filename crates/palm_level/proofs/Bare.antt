@@ -81,12 +81,12 @@ stored_children (k ∷ ks) e =
 abbrev pub own : {l : ℕ} → Result l → Piece
 own r = record { low = r.site.low; id = r.site.place.0 }
 
-take_one : {T : Type 0} (n : ℕ) (xs : List T) (y : T) (ys : List T) → drop n xs ≡ y ∷ ys → take (suc n) xs ≡ take n xs ++ y ∷ []
+pub take_one : {T : Type 0} (n : ℕ) (xs : List T) (y : T) (ys : List T) → drop n xs ≡ y ∷ ys → take (suc n) xs ≡ take n xs ++ y ∷ []
 take_one zero xs y ys e = ap (take 1) e
 take_one (suc n) [] y ys e = absurd (cc)
 take_one (suc n) (x ∷ xs) y ys e = ap (λ zs. x ∷ zs) (take_one n xs y ys e)
 
-drop_one : {T : Type 0} (n : ℕ) (xs : List T) (y : T) (ys : List T) → drop n xs ≡ y ∷ ys → drop (suc n) xs ≡ ys
+pub drop_one : {T : Type 0} (n : ℕ) (xs : List T) (y : T) (ys : List T) → drop n xs ≡ y ∷ ys → drop (suc n) xs ≡ ys
 drop_one zero [] y ys e = absurd (cc)
 drop_one zero (x ∷ xs) y ys e = (cc)
 drop_one (suc n) [] y ys e = absurd (cc)

@@ -160,7 +160,7 @@ parts_after W l f k = by (is_worked W l f) (is_small LEAST_CHILDREN (placed_left
         let own = untouched_kids W l f k.still k.family e in
         ap (λ ks. found_at i (cell_of_site (suc l) f.parent ∷ cells_under l ks)) own ∙ ap (found_at i) (sym (append-nil (cells_of (suc l) f.parent.place)) ∙ sym (append-nil (cells_of (suc l) f.parent.place ++ [])))
 
-passed_all : (l d : ℕ) (rs : List (Result l)) → AllByRecursion (IsRight l (suc d)) rs → AllByRecursion (IsPassed l) rs
+pub passed_all : (l d : ℕ) (rs : List (Result l)) → AllByRecursion (IsRight l (suc d)) rs → AllByRecursion (IsPassed l) rs
 passed_all l d rs all = all_each (IsRight l (suc d)) (IsPassed l) (λ r right. right ∙ ap (λ (o : Outcome l). o.pieces) (outcome_below l d r.site)) rs all
 
 loose_passed : (l d : ℕ) (rs : List (Result l)) → flat_map (loose_of l (suc d)) rs ≡ flat_map (λ r. (site_pass l r.site).loose) rs

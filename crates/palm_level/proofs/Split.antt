@@ -34,6 +34,7 @@ use Rattle.palm_level.specs.Splices.{last_step}
 use Rattle.palm_level.specs.Runs.{parent_of, add_run, runs}
 use Rattle.palm_level.proofs.Bare.{last_snoc, changes_in}
 use Rattle.palm_arena.proofs.Keeping.{same_id}
+use Rattle.palm_level.specs.Tasks.{Distinct}
 use Rattle.palm_level.specs.Families.{Family, IsPassed, with_ids, left_of, part_heads, pieces_under, gone_of, placed_left, bodies_left, is_worked, pieces_after, kept_after, result_after, nodes_before, nodes_after, removed_node, IsFull, IsFamily, HasIds, Worked}
 
 -- the families of a level's results
@@ -130,11 +131,6 @@ run_front x (y ∷ ys) rest a n =
     apart : (zs : List Change) → Apart (parent_of x) zs → Apart (parent_of y) zs
     apart [] b = tt
     apart (z ∷ zs) b = λ e. b (sym a.0 ∙ e)
-
--- each node's id stands once among the nodes of a level
-abbrev pub Distinct : List NodeId → Type 0
-Distinct [] = Unit {0}
-Distinct (i ∷ is) = AllByRecursion (λ j. i ≢ j) is × Distinct is
 
 others_at : (l : ℕ) (i : NodeId) (ps : List (Site (suc l))) (rest : List Cell) → found_at i (map (cell_of_site (suc l)) ps ++ rest) ≡ Nothing → AllByRecursion (λ j. i ≢ j) (map (λ p. p.place.0) ps)
 others_at l i [] rest e = tt
