@@ -57,7 +57,7 @@ over_self [] e = refl
 over_self (child ∷ children) e = ap (λ l. (l, child.1) ∷ children) (sym e)
 
 -- a full node's own children stand as that node
-full_left : {T : Type 0} (low : ℕ) (children : List (ℕ × T)) → HasFromTo LEAST_CHILDREN MOST_CHILDREN children → next_low (λ child. child.0) 0 children ≡ 0 → left_of low children ≡ (low, children) ∷ []
+pub full_left : {T : Type 0} (low : ℕ) (children : List (ℕ × T)) → HasFromTo LEAST_CHILDREN MOST_CHILDREN children → next_low (λ child. child.0) 0 children ≡ 0 → left_of low children ≡ (low, children) ∷ []
 full_left low children b e = rw (large LEAST_CHILDREN children b.0, few_are_one_piece MOST_CHILDREN children (let some = b.0 in omega (arith, some)) b.1, over_self children e)
 
 -- what is known of a family

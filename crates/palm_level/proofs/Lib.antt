@@ -5,6 +5,7 @@ mod Families
 mod Finishing
 mod LaterParts
 mod Lending
+mod LevelEnds
 mod LevelFacts
 mod Parent
 mod PuttingBack
