@@ -1,37 +1,24 @@
 -- What an arena's node and the changes of its children come to: the pieces under the node, by their ids.
-use Rattle.std.proofs.Common.{◌≡◌, ◌≤◌, ◌<◌, ◌+◌, ◌-◌, ℕ, zero, suc, Bool, true, false, cond, List, [], ◌∷◌, ◌++◌, length, map, take, drop, refl, sym, ap, ◌∙◌, arith, subst, append_assoc, add-one, get_or, length-append}
+use Rattle.std.proofs.Common.{◌≡◌, ◌≤◌, ◌+◌, ◌-◌, ℕ, zero, suc, Bool, true, false, cond, List, [], ◌∷◌, ◌++◌, length, map, take, drop, refl, sym, ap, ◌∙◌, arith, subst, append_assoc, add-one, get_or, length-append}
 use Rattle.std.specs.List.{flat_map, filter, AllByRecursion}
-use Rattle.std.proofs.lemmas.List.{append-nil, take-append-le, take_all}
+use Rattle.std.proofs.lemmas.List.{append-nil}
 use mathlib.Core.List.{map-append}
-use Rattle.palm_base.specs.Cut.{cut, piece_count}
-use Rattle.palm_base.specs.Tree.{Subtree, rows_in}
-use Rattle.palm_base.specs.Pass.{Outcome, with_lows, node_over, nodes_over, first_low, is_small, inner_outcome, rows_under, pass, goes_left, goes_right}
-use Rattle.palm_base.specs.Lawful.{next_low, HasFromTo, Sound, InOrder, Root}
+use Rattle.palm_base.specs.Cut.{cut}
+use Rattle.palm_base.specs.Pass.{with_lows, node_over, nodes_over, first_low, is_small, goes_right}
+use Rattle.palm_base.specs.Lawful.{next_low}
 use Rattle.palm_base.specs.declared.bounds.TheConstants.{LEAST_CHILDREN, MOST_CHILDREN}
-use Rattle.palm_base.specs.declared.row.Row.{Row}
 use Rattle.palm_base.specs.declared.call.Call.{Call}
-use Rattle.palm_base.proofs.Cuts.{pieces_join, few_are_one_piece, pieces_are_counted}
-use Rattle.palm_base.proofs.CutParts.{large}
 use Rattle.palm_node.specs.InnerNode.{InnerNode}
 use Rattle.palm_node.specs.declared.id.NodeId.{NodeId}
 use Rattle.palm_node.specs.declared.id.Piece.{Piece}
-use Rattle.palm_node.specs.declared.node.Node.{Node}
-use Rattle.palm_node.specs.declared.node.Node.TheVariants.{Inner}
 use Rattle.palm_node.specs.declared.change.Change.{Change}
-use Rattle.palm_node.specs.declared.change.Changes.{Changes}
-use Rattle.palm_node.specs.declared.change.Removed.{Removed}
-use Rattle.palm_arena.specs.Reads.{same_place}
-use Rattle.palm_arena.specs.Cells.{Cell, Found, Nothing, One, Several, both, found, found_if, found_at, Owns, SameCells, Turns}
-use Rattle.palm_arena.specs.Placed.{Body, Placed, value_in, values, cells_of, cells_under, node_of, ids_of_children, lows_between, bare}
-use Rattle.palm_arena.specs.Sites.{Site, sites_of_children, sites_below, raised, sites_at, cell_of_site, cells_above, outcome_at}
-use Rattle.palm_arena.specs.Standing.{is_touched, Result, is_hit, StandsForItself, IsRight, loose_of, change_of, Kept, kept_cells, kept_rows, removed_of, Stands}
-use Rattle.palm_arena.proofs.Natural.{take-map, drop-map, length-map', cut-map, inside, with_lows-map, node_over-map, small-map}
-use Rattle.palm_arena.proofs.SitePasses.{site_pass, together, pass_below, outcome_below}
+use Rattle.palm_arena.specs.Placed.{Placed, ids_of_children, lows_between, bare}
+use Rattle.palm_arena.specs.Sites.{Site, sites_of_children}
+use Rattle.palm_arena.specs.Standing.{Result, is_hit, StandsForItself, change_of}
+use Rattle.palm_arena.proofs.Natural.{length-map', cut-map, inside, small-map}
 use Rattle.palm_arena.proofs.LevelCells.{sites_children}
-use Rattle.palm_arena.proofs.CellLists.{at-append, same_cross, owned_same, owned_front, same_swap, same_trans, same_sym, same_eq, same_front, same_back}
-use Rattle.palm_arena.proofs.ListParts.{same_parted, same_each, perm_more, flat_each, flat_flat, map_map, flat_map', all_map, map_all, all_both, all_each, all_flat, flat_all, Parted, part}
-use Rattle.palm_level.specs.Families.{Family, IsPassed, with_ids, left_of, part_heads, pieces_under, gone_of, placed_left, bodies_left, is_worked, pieces_after, kept_after, result_after, nodes_before, nodes_after, removed_node, IsFull, IsFamily, HasIds, Worked}
-use Rattle.palm_level.specs.Splices.{last_step, path_above, child_place, pieces_at, children_of, spliced, PlacesRise, inner_over, later_lows}
+use Rattle.palm_level.specs.Families.{Family, left_of, pieces_under, placed_left, IsFull, IsFamily}
+use Rattle.palm_level.specs.Splices.{last_step, path_above, child_place, pieces_at, children_of, spliced, PlacesRise, inner_over}
 use Rattle.palm_level.specs.Groups.{nodes_left}
 use Rattle.palm_level.proofs.Splicing.{drop-add}
 

@@ -1,32 +1,28 @@
 -- The tasks that ran, and what all of them come to.
-use Rattle.std.proofs.Common.{◌≡◌, ◌≢◌, ◌+◌, ◌≤◌, ℕ, zero, suc, Bool, true, false, cond, List, [], ◌∷◌, ◌++◌, length, map, drop, refl, sym, ap, ◌∙◌, arith, subst, append_assoc, Option, Some, None}
-use Rattle.std.specs.Prelude.{reverse, sum_by, All}
+use Rattle.std.proofs.Common.{◌≡◌, ℕ, cond, List, [], ◌∷◌, ◌++◌, length, map, drop, refl, sym, ap, ◌∙◌, arith, subst, Option, Some, None}
+use Rattle.std.specs.Prelude.{reverse, sum_by}
 use Rattle.std.specs.List.{flat_map, AllByRecursion, AllZip}
 use Rattle.std.proofs.lemmas.List.{append-nil, reverse-append, reverse-reverse}
 use Rattle.std.proofs.lemmas.List.Concat.{flat_map-append}
 use Rattle.std.proofs.lemmas.List.Sums.{sum_by-append, sum_by-cons}
-use mathlib.Core.List.{map-append}
-use Rattle.palm_node.specs.InnerNode.{InnerNode}
 use Rattle.palm_node.specs.declared.id.NodeId.{NodeId}
-use Rattle.palm_node.specs.declared.id.Piece.{Piece}
 use Rattle.palm_node.specs.declared.node.Node.{Node}
 use Rattle.palm_node.specs.declared.node.Node.TheVariants.{Inner}
 use Rattle.palm_node.specs.declared.change.Change.{Change}
 use Rattle.palm_node.specs.declared.change.Changes.{Changes}
 use Rattle.palm_share.specs.Jobs.{Holds, Relates}
 use Rattle.palm_arena.specs.declared.place.Place.{Place}
-use Rattle.palm_arena.specs.ArenaState.{ArenaState, place_at}
+use Rattle.palm_arena.specs.ArenaState.{ArenaState}
 use Rattle.palm_arena.specs.Reads.{map_of, inner_in, same_place}
-use Rattle.palm_arena.specs.Cells.{Cell, found_at, SameCells, Turns}
+use Rattle.palm_arena.specs.Cells.{Cell, found_at, SameCells}
 use Rattle.palm_arena.proofs.CellLists.{same_append, same_swap, same_trans, same_eq}
 use Rattle.palm_arena.proofs.Turning.{turns_then, turns_same}
 use Rattle.palm_arena.proofs.Natural.{length-map'}
-use Rattle.palm_arena.proofs.ListParts.{flat_map'}
-use Rattle.palm_level.specs.Works.{HasRun, first_node, parts_left, part_over}
+use Rattle.palm_level.specs.Works.{first_node, parts_left, part_over}
 use Rattle.palm_level.specs.Splices.{children_left}
-use Rattle.palm_level.specs.Groups.{Touched, Group, is_still, cells_before}
+use Rattle.palm_level.specs.Groups.{Touched, Group, is_still}
 use Rattle.palm_level.specs.Plans.{CanWork, touched_by, planned_key}
-use Rattle.palm_level.specs.Tasks.{times_if, times_worked, times_in, LentTo, WorkMayRun, WorkRan, TaskRan, WorkIsReady, TaskIsReady, WorkIsDone, TaskIsDone, task_key, lent_of, cell_in, lent_for, made_for, IsGroup, IsTask, later_of, later_count, HasLent, FinishesAll, HasFinished, HasWorked, spare_in, spare_of, lent_at}
+use Rattle.palm_level.specs.Tasks.{times_if, times_worked, times_in, LentTo, WorkMayRun, WorkRan, TaskRan, WorkIsReady, TaskIsReady, WorkIsDone, TaskIsDone, task_key, lent_of, cell_in, lent_for, made_for, IsGroup, IsTask, later_of, later_count, HasLent, HasFinished, HasWorked, spare_in, spare_of}
 use Rattle.palm_level.specs.declared.node_work.LevelWork.{LevelWork}
 use Rattle.palm_level.specs.declared.plan.Planned.{Planned}
 use Rattle.palm_level.specs.declared.task.Task.{Task}
@@ -51,9 +47,13 @@ work_done : (nodes : NodeId → Option Node) (id : NodeId) (changes : List Chang
 work_done nodes id changes None None ran ready = ready
 work_done nodes id changes None (Some v) ran ready = absurd ran
 work_done nodes id changes (Some w) None ran ready = absurd ran
-work_done nodes id changes (Some w) (Some v) ran (moves, id_is, held, same, ready) = (moves, ran.id ∙ id_is, λ node at.
-    let own : w.lease.node ≡ Inner node = (let e : Some w.lease.node ≡ Some (Inner node) = sym held ∙ at in cc) in
-    subst (λ cs. (v.lease.node ≡ Inner (first_node node (parts_left node cs))) × (v.children.items ≡ children_left node cs) × (v.later.items ≡ map part_over (drop 1 (parts_left node cs)))) same (ran.made node own))
+work_done nodes id changes (Some w) (Some v) ran (moves, id_is, held, same, ready) = (
+  moves,
+  ran.id ∙ id_is,
+  λ node at.
+      let own : w.lease.node ≡ Inner node = (let e : Some w.lease.node ≡ Some (Inner node) = sym held ∙ at in cc) in
+      subst (λ cs. (v.lease.node ≡ Inner (first_node node (parts_left node cs))) × (v.children.items ≡ children_left node cs) × (v.later.items ≡ map part_over (drop 1 (parts_left node cs)))) same (ran.made node own),
+)
 
 work_times : (id : NodeId) (before after : Option LevelWork) → WorkRan before after → times_worked id after ≡ times_worked id before
 work_times id None None ran = refl

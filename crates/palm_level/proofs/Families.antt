@@ -1,39 +1,30 @@
 -- From the ChangesAt of a level to those of the next.
-use Rattle.std.proofs.Common.{◌≡◌, ◌≤◌, ℕ, zero, suc, Bool, true, false, cond, ◌&&◌, ◌||◌, List, [], ◌∷◌, ◌++◌, length, map, refl, sym, ap, ◌∙◌, append_assoc, arith, subst, Option}
+use Rattle.std.proofs.Common.{◌≡◌, ℕ, suc, Bool, true, false, cond, ◌&&◌, ◌||◌, List, [], ◌∷◌, ◌++◌, length, map, refl, sym, ap, ◌∙◌, append_assoc, arith, subst, Option}
 use Rattle.std.specs.List.{flat_map, AllByRecursion, filter, list_any}
 use Rattle.std.specs.List.Sorted.{IsPermutation}
 use Rattle.std.proofs.lemmas.List.{append-nil}
 use Rattle.std.proofs.lemmas.List.Concat.{flat_map-append}
 use mathlib.Core.List.{map-append}
-use Rattle.palm_base.specs.Cut.{cut, piece_count}
-use Rattle.palm_base.specs.Tree.{Subtree, rows_in}
-use Rattle.palm_base.specs.Pass.{Outcome, with_lows, node_over, nodes_over, first_low, is_small, inner_outcome, rows_under, pass, goes_left, goes_right}
-use Rattle.palm_base.specs.Lawful.{next_low, HasFromTo, Sound, InOrder, Root}
+use Rattle.palm_base.specs.Tree.{rows_in}
+use Rattle.palm_base.specs.Pass.{Outcome, node_over, nodes_over, is_small}
+use Rattle.palm_base.specs.Lawful.{next_low, HasFromTo}
 use Rattle.palm_base.specs.declared.bounds.TheConstants.{LEAST_CHILDREN, MOST_CHILDREN}
-use Rattle.palm_base.specs.declared.row.Row.{Row}
-use Rattle.palm_base.specs.declared.call.Call.{Call}
-use Rattle.palm_base.proofs.Cuts.{pieces_join, few_are_one_piece, pieces_are_counted}
+use Rattle.palm_base.proofs.Cuts.{few_are_one_piece}
 use Rattle.palm_base.proofs.CutParts.{large}
-use Rattle.palm_node.specs.InnerNode.{InnerNode}
 use Rattle.palm_node.specs.declared.id.NodeId.{NodeId}
-use Rattle.palm_node.specs.declared.id.Piece.{Piece}
 use Rattle.palm_node.specs.declared.node.Node.{Node}
 use Rattle.palm_node.specs.declared.node.Node.TheVariants.{Inner}
-use Rattle.palm_node.specs.declared.change.Change.{Change}
 use Rattle.palm_node.specs.declared.change.Changes.{Changes}
-use Rattle.palm_node.specs.declared.change.Removed.{Removed}
-use Rattle.palm_arena.specs.Reads.{same_place}
-use Rattle.palm_arena.specs.Cells.{Cell, Found, Nothing, One, Several, both, found, found_if, found_at, Owns, SameCells, Turns}
-use Rattle.palm_arena.specs.Placed.{Body, Placed, value_in, values, cells_of, cells_under, node_of, ids_of_children, lows_between, bare}
-use Rattle.palm_arena.specs.Sites.{Site, sites_of_children, sites_below, raised, sites_at, cell_of_site, cells_above, outcome_at}
+use Rattle.palm_arena.specs.Cells.{Cell, found_at, Owns, SameCells}
+use Rattle.palm_arena.specs.Placed.{Body, Placed, value_in, values, cells_of, cells_under, ids_of_children, lows_between}
+use Rattle.palm_arena.specs.Sites.{Site, raised, sites_at, cell_of_site, cells_above}
 use Rattle.palm_arena.specs.Standing.{is_touched, Result, is_hit, StandsForItself, IsRight, loose_of, change_of, Kept, kept_cells, kept_rows, removed_of, Stands}
-use Rattle.palm_arena.proofs.Natural.{take-map, drop-map, length-map', cut-map, inside, with_lows-map, node_over-map, small-map}
-use Rattle.palm_arena.proofs.SitePasses.{site_pass, together, pass_below, outcome_below}
+use Rattle.palm_arena.proofs.SitePasses.{site_pass, outcome_below}
 use Rattle.palm_arena.proofs.LevelCells.{sites_children}
-use Rattle.palm_arena.proofs.CellLists.{at-append, same_cross, owned_same, owned_front, same_swap, same_trans, same_sym, same_eq, same_front, same_back}
-use Rattle.palm_arena.proofs.ListParts.{same_parted, same_each, perm_more, flat_each, flat_flat, map_map, flat_map', all_map, map_all, all_both, all_each, all_flat, flat_all, Parted, part}
+use Rattle.palm_arena.proofs.CellLists.{owned_same, same_trans, same_sym, same_eq, same_front, same_back}
+use Rattle.palm_arena.proofs.ListParts.{same_parted, same_each, perm_more, flat_each, flat_flat, map_map, flat_map', all_map, all_each, all_flat}
 use Rattle.palm_level.proofs.Parent.{parent_right, parent_loose, parts_cells}
-use Rattle.palm_level.specs.Families.{Family, IsPassed, with_ids, left_of, part_heads, pieces_under, gone_of, placed_left, bodies_left, is_worked, pieces_after, kept_after, result_after, nodes_before, nodes_after, removed_node, IsFull, IsFamily, HasIds, Worked}
+use Rattle.palm_level.specs.Families.{Family, IsPassed, with_ids, left_of, part_heads, pieces_under, gone_of, placed_left, bodies_left, is_worked, pieces_after, kept_after, result_after, nodes_before, nodes_after, IsFull, IsFamily, HasIds, Worked}
 
 -- Where no child is touched, what stands for the children is the children.
 still_pieces : (W : NodeId → Bool) (l : ℕ) (rs : List (Result l)) → AllByRecursion (StandsForItself W l) rs → list_any (λ (child : ℕ × Placed l). is_touched W l child.1) (map {B = ℕ × Placed l} (λ s. (s.low, s.place)) (map (λ r. r.site) rs)) ≡ false
@@ -92,6 +83,7 @@ gone_after W l f k = by (is_worked W l f) (is_small LEAST_CHILDREN (placed_left 
   where
     held : List Kept
     held = record { below = suc l; place = (f.parent.place.0, node_over (placed_left l f)) } ∷ []
+
     by : (b s : Bool) → is_worked W l f ≡ b → is_small LEAST_CHILDREN (placed_left l f) ≡ s → flat_map kept_rows (cond (b && s) held []) ≡ cond s (rows_in (suc l) (value_in (suc l) (placed_left l f))) []
     by true true e q = append-nil (rows_in (suc l) (value_in (suc l) (node_over (placed_left l f)))) ∙ over_rows l (placed_left l f)
     by true false e q = refl
@@ -132,12 +124,16 @@ parts_after W l f k = by (is_worked W l f) (is_small LEAST_CHILDREN (placed_left
   where
     children : List (ℕ × Placed l)
     children = placed_left l f
+
     held : List Kept
     held = record { below = suc l; place = (f.parent.place.0, node_over children) } ∷ []
+
     left : Bool → List (ℕ × Body (suc l))
     left s = let ps = nodes_over f.parent.low children in cond s [] ps
+
     gone : Bool → List Cell
     gone s = let h = (f.parent.place.0, Inner (record { children = ids_of_children children; separators = lows_between children })) ∷ [] in cond s h []
+
     by : (b s : Bool) → is_worked W l f ≡ b → is_small LEAST_CHILDREN children ≡ s
         → SameCells (cond b (part_heads l f.ids (cond s [] (nodes_over f.parent.low children)) ++ cond s ((f.parent.place.0, Inner (record { children = ids_of_children children; separators = lows_between children })) ∷ []) []) [] ++ cond b (cells_under l children) (cell_of_site (suc l) f.parent ∷ cells_under l children))
         (cells_under (suc l) (cond b (with_ids f.ids (cond s [] (nodes_over f.parent.low children))) ((f.parent.low, f.parent.place) ∷ [])) ++ flat_map kept_cells (cond (b && s) held []))
@@ -149,6 +145,7 @@ parts_after W l f k = by (is_worked W l f) (is_small LEAST_CHILDREN (placed_left
         none_heads : (l : ℕ) (ids : List NodeId) → part_heads l ids [] ≡ []
         none_heads l [] = refl
         none_heads l (id ∷ ids) = refl
+
         none_ids : {B : Type 0} (ids : List NodeId) → with_ids {B = B} ids [] ≡ []
         none_ids [] = refl
         none_ids (id ∷ ids) = refl
@@ -187,12 +184,16 @@ owned_after d l root W rest m m' seen st fs w k =
   where
     hs : List Cell
     hs = cells_above d (suc l) root
+
     ks : List Cell
     ks = flat_map kept_cells st.kept
+
     before : Family l → List Cell
     before f = (cell_of_site (suc l) f.parent ∷ []) ++ cells_under l (placed_left l f)
+
     after : Family l → List Cell
     after f = cells_under (suc l) (pieces_after W l f) ++ flat_map kept_cells (kept_after W l f)
+
     to_parts : SameCells ((hs ++ map (cell_of_site (suc l)) (sites_at d (suc l) root)) ++ (cells_under l (pieces_under l st.results) ++ (ks ++ rest))) (flat_map (nodes_before W l) fs ++ (flat_map (stays W l) fs ++ (hs ++ (ks ++ rest))))
     to_parts = same_front hs (map (cell_of_site (suc l)) (sites_at d (suc l) root)) (cells_under l (pieces_under l st.results)) (ks ++ rest) (flat_map (nodes_before W l) fs) (flat_map (stays W l) fs)
         (same_trans (map (cell_of_site (suc l)) (sites_at d (suc l) root) ++ cells_under l (pieces_under l st.results)) (flat_map before fs) (flat_map (nodes_before W l) fs ++ flat_map (stays W l) fs)
@@ -204,6 +205,7 @@ owned_after d l root W rest m m' seen st fs w k =
         single : (fs : List (Family l)) → flat_map (λ f. cell_of_site (suc l) f.parent ∷ []) fs ≡ map (cell_of_site (suc l)) (map (λ f. f.parent) fs)
         single [] = refl
         single (f ∷ fs) = ap (λ cs. cell_of_site (suc l) f.parent ∷ cs) (single fs)
+
         both : map (cell_of_site (suc l)) (sites_at d (suc l) root) ++ cells_under l (pieces_under l st.results) ≡ flat_map (λ f. cell_of_site (suc l) f.parent ∷ []) fs ++ flat_map (λ f. cells_under l (placed_left l f)) fs
         both =
             ap (λ ps. map (cell_of_site (suc l)) ps ++ cells_under l (pieces_under l st.results)) (sym w.parents)
@@ -211,6 +213,7 @@ owned_after d l root W rest m m' seen st fs w k =
             ∙ ap (λ rs. flat_map (λ f. cell_of_site (suc l) f.parent ∷ []) fs ++ cells_under l (pieces_under l rs)) (sym w.children)
             ∙ ap (λ rs. flat_map (λ f. cell_of_site (suc l) f.parent ∷ []) fs ++ cells_under l rs) (flat_flat (λ f. f.children) (λ r. r.pieces) fs)
             ∙ ap (λ rs. flat_map (λ f. cell_of_site (suc l) f.parent ∷ []) fs ++ rs) (flat_flat (λ f. placed_left l f) (λ (child : ℕ × Placed l). cells_of l child.1) fs)
+
     from_parts : SameCells (flat_map (nodes_after W l) fs ++ (flat_map (stays W l) fs ++ (hs ++ (ks ++ rest)))) (hs ++ (cells_under (suc l) (pieces_under (suc l) (map (result_after W l) fs)) ++ (flat_map kept_cells (st.kept ++ flat_map (kept_after W l) fs) ++ rest)))
     from_parts = same_trans _ (hs ++ (flat_map (λ f. cells_under (suc l) (pieces_after W l f)) fs ++ ((ks ++ flat_map (λ f. flat_map kept_cells (kept_after W l f)) fs) ++ rest))) _
         (same_back hs ks rest (flat_map (nodes_after W l) fs) (flat_map (stays W l) fs) (flat_map (λ f. cells_under (suc l) (pieces_after W l f)) fs) (flat_map (λ f. flat_map kept_cells (kept_after W l f)) fs)
@@ -223,6 +226,7 @@ owned_after d l root W rest m m' seen st fs w k =
       where
         pieces : flat_map (λ f. cells_under (suc l) (pieces_after W l f)) fs ≡ cells_under (suc l) (pieces_under (suc l) (map (result_after W l) fs))
         pieces = sym (flat_flat (pieces_after W l) (λ (child : ℕ × Placed (suc l)). cells_of (suc l) child.1) fs) ∙ ap (cells_under (suc l)) (sym (flat_map' (result_after W l) (λ r. r.pieces) fs))
+
         kepts : ks ++ flat_map (λ f. flat_map kept_cells (kept_after W l f)) fs ≡ flat_map kept_cells (st.kept ++ flat_map (kept_after W l) fs)
         kepts = ap (λ cs. ks ++ cs) (sym (flat_flat (kept_after W l) kept_cells fs)) ∙ sym (flat_map-append kept_cells st.kept (flat_map (kept_after W l) fs))
 
@@ -240,6 +244,7 @@ loose_after d l root W rest m m' seen st fs w k =
         append_assoc (seen.loose) (flat_map kept_rows st.kept) (flat_map (λ f. gone_of l (placed_left l f)) fs)
         ∙ ap (λ rs. seen.loose ++ (flat_map kept_rows st.kept ++ rs)) (sym (flat_flat (kept_after W l) kept_rows fs ∙ flat_each (Known W l) (λ f. flat_map kept_rows (kept_after W l f)) (λ f. gone_of l (placed_left l f)) (gone_after W l) fs k))
         ∙ ap (λ rs. seen.loose ++ rs) (sym (flat_map-append kept_rows st.kept (flat_map (kept_after W l) fs)))
+
     into : flat_map (λ f. gone_of l (placed_left l f) ++ flat_map (λ r. (site_pass l r.site).loose) f.children) fs ≡ flat_map (loose_of (suc l) d) (map (result_after W l) fs)
     into =
         sym (flat_each (Known W l) (λ f. (site_pass (suc l) f.parent).loose) (λ f. gone_of l (placed_left l f) ++ flat_map (λ r. (site_pass l r.site).loose) f.children) (λ f q. parent_loose l f.parent f.children q.family q.right) fs k)

@@ -1,12 +1,11 @@
 -- The work on the nodes of a level is ended, one task after another.
-use Rattle.std.proofs.Common.{◌≡◌, ◌≢◌, ◌+◌, ◌≤◌, ℕ, zero, suc, Bool, true, false, cond, List, [], ◌∷◌, ◌++◌, length, map, refl, sym, ap, ◌∙◌, arith, subst, append_assoc, eq-eqb, Option, Some, None}
+use Rattle.std.proofs.Common.{◌≡◌, ◌+◌, ◌≤◌, ℕ, true, false, cond, List, [], ◌∷◌, ◌++◌, map, refl, sym, ap, ◌∙◌, arith, subst, append_assoc, eq-eqb, Option, Some, None}
 use Rattle.std.specs.Prelude.{reverse, sum_by}
 use Rattle.std.specs.List.{flat_map, AllByRecursion}
-use Rattle.std.proofs.lemmas.List.{append-nil, reverse-append, reverse-reverse}
+use Rattle.std.proofs.lemmas.List.{append-nil, reverse-append}
 use Rattle.std.proofs.lemmas.List.Concat.{flat_map-append}
 use Rattle.std.proofs.lemmas.List.Sums.{sum_by-append, sum_by-cons}
 use mathlib.Core.List.{map-append}
-use Rattle.palm_node.specs.InnerNode.{InnerNode}
 use Rattle.palm_node.specs.declared.id.NodeId.{NodeId}
 use Rattle.palm_node.specs.declared.id.Piece.{Piece}
 use Rattle.palm_node.specs.declared.node.Node.{Node}
@@ -16,12 +15,12 @@ use Rattle.palm_node.specs.declared.change.Changes.{Changes}
 use Rattle.palm_node.specs.declared.change.Removed.{Removed}
 use Rattle.palm_arena.specs.declared.place.Place.{Place}
 use Rattle.palm_arena.specs.declared.place.Place.TheVariants.{Empty, Lent, Holds}
-use Rattle.palm_arena.specs.ArenaState.{ArenaState, place_at, NoneLent, IsLent}
-use Rattle.palm_arena.specs.Reads.{map_of, same_place}
-use Rattle.palm_arena.specs.Cells.{Cell, Owns, Turns}
-use Rattle.palm_level.specs.Groups.{Touched, Group, is_still, group_nodes, cells_after, group_change, group_removed}
+use Rattle.palm_arena.specs.ArenaState.{ArenaState, place_at, NoneLent}
+use Rattle.palm_arena.specs.Reads.{map_of}
+use Rattle.palm_arena.specs.Cells.{Owns, Turns}
+use Rattle.palm_level.specs.Groups.{Touched, Group, is_still, cells_after, group_change, group_removed}
 use Rattle.palm_level.specs.Plans.{CanWork, touched_by}
-use Rattle.palm_level.specs.Tasks.{lent_at, times_if, times_worked, times_in, LentTo, ComesHome, WorkIsDone, TaskIsDone, itself, change_for, removed_for, made_for, IsGroup, MadeOf, PutsBack, PutsBackAny, StandsFor, Finishes, FinishesAll, HasFinished, task_key, IsTask, TaskIsLent, TaskComesHome, later_of, WorkIsLent}
+use Rattle.palm_level.specs.Tasks.{lent_at, times_if, times_worked, times_in, LentTo, WorkIsDone, TaskIsDone, itself, change_for, removed_for, made_for, IsGroup, PutsBack, PutsBackAny, StandsFor, Finishes, FinishesAll, HasFinished, TaskIsLent, TaskComesHome, later_of, WorkIsLent}
 use Rattle.palm_level.specs.declared.node_work.LevelWork.{LevelWork}
 use Rattle.palm_level.specs.declared.task.Task.{Task}
 use Rattle.palm_level.proofs.Taking.{turns_more}

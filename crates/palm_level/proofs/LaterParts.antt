@@ -1,5 +1,5 @@
 -- The parts that children are cut into, one after another past the first.
-use Rattle.std.proofs.Common.{◌≡◌, ℕ, zero, suc, ◌+◌, ◌-◌, ◌<◌, ◌≤◌, List, [], ◌∷◌, ◌++◌, length, map, take, drop, get_or, ◌==◌, false, refl, sym, ap, ◌∙◌, arith, subst, append_assoc}
+use Rattle.std.proofs.Common.{◌≡◌, ℕ, zero, suc, ◌+◌, ◌<◌, ◌≤◌, List, [], ◌∷◌, ◌++◌, length, map, take, drop, get_or, ◌==◌, false, refl, sym, ap, ◌∙◌, arith, subst, append_assoc}
 use Rattle.std.proofs.lemmas.List.{append-nil}
 use Rattle.palm_base.specs.Cut.{piece_count, piece_size, cut}
 use Rattle.palm_base.proofs.Cuts.{cut_none}
@@ -35,9 +35,12 @@ pub first_part : (children : List Piece) → 1 ≤ length children → Rise (lat
 first_part children some rise =
     let t = length children in
     let first = cut_first LEAST_CHILDREN children (omega arith) in
-    let fits = next_fits MOST_CHILDREN t 0 children (some_pieces children some) first in
-    (fits.0, fits.1, later_take (piece_size MOST_CHILDREN t 0) children rise,
-    sym (left_first MOST_CHILDREN children) ∙ left_next MOST_CHILDREN t 0 children (some_pieces children some))
+    let fits = next_fits MOST_CHILDREN t 0 children (some_pieces children some) first in (
+      fits.0,
+      fits.1,
+      later_take (piece_size MOST_CHILDREN t 0) children rise,
+      sym (left_first MOST_CHILDREN children) ∙ left_next MOST_CHILDREN t 0 children (some_pieces children some),
+    )
 
 pub parts_first : (children rest : List Piece) (later : List Part) (size : ℕ) → 1 ≤ length children → Rise (later_lows children) → later ≡ [] → size ≡ piece_size MOST_CHILDREN (length children) 0 → rest ≡ drop size children
     → PartsSoFar children 1 rest later

@@ -1,5 +1,5 @@
 -- The nodes of a level are lent, one after another.
-use Rattle.std.proofs.Common.{◌≡◌, ◌≢◌, ◌+◌, ◌≤◌, ℕ, zero, suc, Bool, true, false, cond, List, [], ◌∷◌, ◌++◌, length, map, refl, sym, ap, ◌∙◌, arith, subst, append_assoc, Option, Some, None}
+use Rattle.std.proofs.Common.{◌≡◌, ◌≢◌, ◌+◌, cond, List, [], ◌∷◌, ◌++◌, map, refl, sym, ap, ◌∙◌, arith, subst, append_assoc, Option, Some, None}
 use Rattle.std.specs.Prelude.{reverse, sum_by, IsSome}
 use Rattle.std.specs.List.{flat_map, AllByRecursion}
 use Rattle.std.proofs.lemmas.List.{append-nil, reverse-append}
@@ -11,19 +11,18 @@ use native.Mathlib.Decide.{ℕ_discrete}
 use Rattle.palm_node.specs.declared.id.NodeId.{NodeId}
 use Rattle.palm_node.specs.declared.node.Node.{Node}
 use Rattle.palm_node.specs.declared.node.Node.TheVariants.{Inner}
-use Rattle.palm_node.specs.declared.change.Change.{Change}
 use Rattle.palm_arena.specs.declared.place.Place.{Place}
 use Rattle.palm_arena.specs.declared.place.Place.TheVariants.{Empty, Lent, Holds}
-use Rattle.palm_arena.specs.ArenaState.{ArenaState, place_at, node_in, node_at, with_place, NoneLent}
+use Rattle.palm_arena.specs.ArenaState.{ArenaState, place_at, node_in, with_place, NoneLent}
 use Rattle.palm_arena.specs.Reads.{map_of, same_place}
-use Rattle.palm_arena.specs.Cells.{Cell, Owns, Turns}
+use Rattle.palm_arena.specs.Cells.{Turns}
 use Rattle.palm_arena.proofs.Keeping.{same_id}
 use Rattle.palm_arena.proofs.Standing.{put_stands, others_stay}
 use Rattle.palm_arena.proofs.Turning.{lend_turns}
 use Rattle.palm_arena.proofs.ListParts.{all_front}
-use Rattle.palm_level.specs.Groups.{Touched, is_still}
+use Rattle.palm_level.specs.Groups.{Touched}
 use Rattle.palm_level.specs.Works.{IsReady, CanSplice}
-use Rattle.palm_level.specs.Plans.{CanWork, IsRoomAt, HasRoom, IsPlanned, touched_by, planned_key}
+use Rattle.palm_level.specs.Plans.{CanWork, IsRoomAt, IsPlanned, planned_key}
 use Rattle.palm_level.specs.Tasks.{lent_at, times_if, times_worked, times_in, LentTo, TaskIsReady, WorkIsReady, task_key, lent_of, cell_in, Starts, WorkStarts, IsThere, planned_id, Distinct, HasLent}
 use Rattle.palm_level.specs.declared.node_work.LevelWork.{LevelWork}
 use Rattle.palm_level.specs.declared.plan.Planned.{Planned}

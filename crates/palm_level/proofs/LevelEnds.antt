@@ -1,18 +1,13 @@
 -- The work on the parents of a level's changes leads to the changes of the next, and takes no more than these tell.
-use Rattle.std.proofs.Common.{◌≡◌, ◌≢◌, ◌≤◌, ◌<◌, ◌+◌, ◌-◌, ℕ, zero, suc, Bool, true, false, cond, ◌&&◌, List, [], ◌∷◌, ◌++◌, length, map, drop, take, refl, sym, ap, ◌∙◌, arith, subst, append_assoc, length-append, eqb-true, Option, Some, None}
-use Rattle.std.specs.Prelude.{sum_by}
+use Rattle.std.proofs.Common.{◌≡◌, ℕ, zero, suc, Bool, true, false, cond, ◌&&◌, List, [], ◌∷◌, ◌++◌, length, map, refl, sym, ap, ◌∙◌, eqb-true, Option, Some}
 use Rattle.std.specs.List.{flat_map, AllByRecursion, filter}
-use Rattle.std.proofs.lemmas.List.{append-nil, length-drop}
-use Rattle.std.proofs.lemmas.List.Sums.{sum_by-cons, sum_by-append}
-use mathlib.Core.List.{map-append}
-use Rattle.palm_base.specs.Cut.{cut, piece_count}
-use Rattle.palm_base.specs.Tree.{Subtree, rows_in}
-use Rattle.palm_base.specs.Pass.{Outcome, with_lows, node_over, nodes_over, first_low, is_small, inner_outcome, below, rows_under, pass, goes_left, goes_right}
-use Rattle.palm_base.specs.Lawful.{next_low, HasFromTo, Sound, InOrder, Root}
+use Rattle.std.proofs.lemmas.List.{append-nil}
+use Rattle.palm_base.specs.Cut.{cut}
+use Rattle.palm_base.specs.Tree.{Subtree}
+use Rattle.palm_base.specs.Pass.{Outcome, node_over, nodes_over, is_small, below, rows_under, pass}
+use Rattle.palm_base.specs.Lawful.{next_low}
 use Rattle.palm_base.specs.declared.bounds.TheConstants.{LEAST_CHILDREN, MOST_CHILDREN}
-use Rattle.palm_base.specs.declared.row.Row.{Row}
 use Rattle.palm_base.specs.declared.call.Call.{Call}
-use Rattle.palm_base.proofs.Cuts.{pieces_join, few_are_one_piece, pieces_are_counted}
 use Rattle.palm_base.proofs.CutParts.{large}
 use Rattle.palm_node.specs.InnerNode.{InnerNode}
 use Rattle.palm_node.specs.declared.id.NodeId.{NodeId}
@@ -21,36 +16,30 @@ use Rattle.palm_node.specs.declared.node.Node.{Node}
 use Rattle.palm_node.specs.declared.node.Node.TheVariants.{Inner}
 use Rattle.palm_node.specs.declared.change.Change.{Change}
 use Rattle.palm_node.specs.declared.change.Changes.{Changes}
-use Rattle.palm_node.specs.declared.change.Removed.{Removed}
-use Rattle.palm_arena.specs.Reads.{same_place}
-use Rattle.palm_arena.specs.Cells.{Cell, Found, Nothing, One, Several, both, found, found_if, found_at, Owns, SameCells, Turns}
-use Rattle.palm_arena.specs.Placed.{Body, Placed, value_in, values, cells_of, cells_under, node_of, ids_of_children, lows_between, bare}
-use Rattle.palm_arena.specs.Sites.{Site, sites_of_children, sites_below, raised, sites_at, cell_of_site, cells_above, outcome_at}
-use Rattle.palm_arena.specs.Standing.{is_touched, Result, is_hit, StandsForItself, IsRight, loose_of, change_of, Kept, kept_cells, kept_rows, removed_of, Stands}
-use Rattle.palm_arena.proofs.Natural.{take-map, drop-map, length-map', cut-map, inside, with_lows-map, node_over-map, small-map}
-use Rattle.palm_arena.proofs.SitePasses.{site_pass, together, pass_below, outcome_below}
-use Rattle.palm_arena.proofs.LevelCells.{sites_children}
-use Rattle.palm_arena.proofs.CellLists.{at-append, same_cross, owned_same, owned_front, same_swap, same_trans, same_sym, same_eq, same_front, same_back}
-use Rattle.palm_arena.proofs.ListParts.{same_parted, same_each, perm_more, flat_each, flat_flat, map_map, flat_map', all_map, map_all, all_both, all_each, all_flat, flat_all, Parted, part}
-use Rattle.palm_level.specs.Families.{Family, IsPassed, with_ids, left_of, part_heads, pieces_under, gone_of, placed_left, bodies_left, is_worked, pieces_after, kept_after, result_after, nodes_before, nodes_after, removed_node, IsFull, IsFamily, HasIds, Worked}
+use Rattle.palm_arena.specs.Cells.{Cell, found_at, SameCells, Turns}
+use Rattle.palm_arena.specs.Placed.{Placed, value_in, values, bare}
+use Rattle.palm_arena.specs.Sites.{Site, raised, sites_at}
+use Rattle.palm_arena.specs.Standing.{Result, is_hit, StandsForItself, change_of, Stands}
+use Rattle.palm_arena.proofs.Natural.{inside, small-map}
+use Rattle.palm_arena.proofs.SitePasses.{site_pass}
+use Rattle.palm_arena.proofs.CellLists.{same_trans, same_sym, same_eq}
+use Rattle.palm_arena.proofs.ListParts.{same_parted, same_each, flat_map', all_each}
+use Rattle.palm_level.specs.Families.{Family, IsPassed, placed_left, is_worked}
 use Rattle.palm_base.specs.Pass.{leaves_of}
 use Rattle.palm_base.proofs.SoundNodes.{low_of, first_has_low}
 use Rattle.palm_base.specs.Table.{row_key, after_all}
 use Rattle.palm_base.specs.declared.bounds.TheConstants.{LEAST_LEAF_ROWS, MOST_LEAF_ROWS}
 use Rattle.palm_arena.proofs.Keeping.{same_id}
 use Rattle.palm_arena.proofs.Turning.{turns_before, turns_same}
-use Rattle.palm_arena.specs.Passes.{IsWithin}
-use Rattle.palm_level.specs.Splices.{children_left, inner_over}
-use Rattle.palm_level.specs.Works.{parts_left}
+use Rattle.palm_level.specs.Splices.{inner_over}
 use Rattle.palm_level.specs.Runs.{runs}
 use Rattle.palm_level.specs.Groups.{Touched, Group, touched_of, is_alone, is_still, group_left, nodes_left, group_nodes, named_pieces, cells_at, cells_before, cells_after, removed_cell, group_change, group_removed}
-use Rattle.palm_level.specs.Tasks.{IsGroup, HasWorked, change_for, removed_for, lent_for, made_for, itself, spare_in, spare_of}
-use Rattle.palm_level.proofs.Bare.{own, changes_in, family_own, inner_of, inner_bare, family_left, family_length, flat_bare, left_bare}
+use Rattle.palm_level.specs.Tasks.{IsGroup, HasWorked, change_for, removed_for, lent_for, made_for, itself}
+use Rattle.palm_level.proofs.Bare.{own, changes_in, family_own, inner_of, family_left, flat_bare, left_bare}
 use Rattle.palm_level.proofs.Split.{family_changes}
 use Rattle.palm_level.proofs.Families.{full_left}
-use Rattle.palm_level.proofs.Running.{IsOf, Ready, Aligned, none, other, this, given, left_is, run_stands}
+use Rattle.palm_level.proofs.Running.{IsOf, Ready, Aligned, none, other, this, given, run_stands}
 use Rattle.palm_level.proofs.LevelFacts.{Known, known_full, Setting, family_touched, worked_runs}
-use Rattle.palm_level.proofs.Within.{under_more}
 
 -- ---- a node that stays as it is
 
@@ -135,7 +124,7 @@ stays_nodes W l nodes g f k is still =
     let left : group_left g ≡ bare f.parent.place.1 = left_for W l nodes g f k is ∙ still_left W l nodes f k alone in
     let large_bare : is_small LEAST_CHILDREN (bare f.parent.place.1) ≡ false = small-map {B = Piece} (λ (child : ℕ × Placed l). record { low = child.0; id = child.1.0 }) LEAST_CHILDREN f.parent.place.1 ∙ large LEAST_CHILDREN f.parent.place.1 full.0.0 in
     let one : nodes_left g.touched.low (bare f.parent.place.1) ≡ (g.touched.low, inner_of f.parent.place.1) ∷ [] =
-        sym (left_bare g.touched.low f.parent.place.1) ∙ ap (map {B = ℕ × InnerNode} (inside inner_of)) (full_left g.touched.low f.parent.place.1 full.0 full.1) in
+    sym (left_bare g.touched.low f.parent.place.1) ∙ ap (map {B = ℕ × InnerNode} (inside inner_of)) (full_left g.touched.low f.parent.place.1 full.0 full.1) in
     (ap (nodes_left g.touched.low) left ∙ one ∙ ap (λ n. (g.touched.low, n) ∷ []) (sym is.node), ap (is_small LEAST_CHILDREN) left ∙ large_bare)
 
 -- The settled group is the family's.
@@ -256,7 +245,7 @@ level_worked d l root W rest old new changes before after st fs parents children
     let nodes : after.nodes ≡ map group_change (map settled worked.groups) = worked.changed ∙ ap (λ (c : Changes). c.nodes ++ map change_for worked.groups) start ∙ all_change W l worked.groups all.settle in
     let loose : after.loose ≡ changes.loose = worked.loose ∙ ap (λ (c : Changes). c.loose) start in
     let removed : after.removed ≡ changes.removed ++ flat_map (group_removed (suc (suc l))) (map settled worked.groups) =
-        worked.removed ∙ ap (λ (c : Changes). c.removed ++ flat_map (removed_for (suc (suc l))) worked.groups) start ∙ ap (λ rs. changes.removed ++ rs) (all_removed W l (suc (suc l)) worked.groups all.settle) in
+    worked.removed ∙ ap (λ (c : Changes). c.removed ++ flat_map (removed_for (suc (suc l))) worked.groups) start ∙ ap (λ rs. changes.removed ++ rs) (all_removed W l (suc (suc l)) worked.groups all.settle) in
     run_stands (suc d) l root W rest old new changes after st fs all.families (map settled worked.groups) parents children (all_each (Known W l old) (Ready W l) (λ f k. ready_of W l old f k) fs s.known) all.aligned
     (all_turns W l old new worked.groups all.settle worked.turns)
     (λ i. record { nodes = nodes i; loose = loose i; removed = removed i })

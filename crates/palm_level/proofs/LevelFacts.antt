@@ -1,54 +1,36 @@
 -- What the arena has where the changes of a level stand for a pass: the nodes above them can be worked on.
-use Rattle.std.proofs.Common.{◌≡◌, ◌≢◌, ◌≤◌, ◌<◌, ◌+◌, ◌-◌, ℕ, zero, suc, Bool, true, false, cond, ◌&&◌, List, [], ◌∷◌, ◌++◌, length, map, drop, take, get_or, refl, sym, ap, ◌∙◌, arith, subst, append_assoc, length-append, eqb-true, Option, Some, None}
-use Rattle.std.specs.Prelude.{sum_by}
+use Rattle.std.proofs.Common.{◌≡◌, ◌≢◌, ◌≤◌, ◌<◌, ◌+◌, ℕ, zero, suc, Bool, true, false, cond, List, [], ◌∷◌, ◌++◌, length, map, drop, get_or, refl, sym, ap, ◌∙◌, arith, subst, append_assoc, length-append, Option, Some}
 use Rattle.std.specs.List.{flat_map, AllByRecursion, filter}
-use Rattle.std.proofs.lemmas.List.{append-nil}
-use Rattle.std.proofs.lemmas.List.Sums.{sum_by-cons, sum_by-append}
-use mathlib.Core.List.{map-append}
-use Rattle.palm_base.specs.Cut.{cut, piece_count}
-use Rattle.palm_base.specs.Tree.{Subtree, rows_in}
-use Rattle.palm_base.specs.Pass.{Outcome, with_lows, node_over, nodes_over, first_low, is_small, inner_outcome, rows_under, pass, goes_left, goes_right}
-use Rattle.palm_base.specs.Lawful.{next_low, HasFromTo, Sound, InOrder, Root}
-use Rattle.palm_base.specs.declared.bounds.TheConstants.{LEAST_CHILDREN, MOST_CHILDREN}
-use Rattle.palm_base.specs.declared.row.Row.{Row}
+use Rattle.palm_base.specs.Tree.{Subtree}
+use Rattle.palm_base.specs.Pass.{goes_right}
+use Rattle.palm_base.specs.Lawful.{next_low, Root}
 use Rattle.palm_base.specs.declared.call.Call.{Call}
-use Rattle.palm_base.proofs.Cuts.{pieces_join, few_are_one_piece, pieces_are_counted}
-use Rattle.palm_base.proofs.CutParts.{large}
 use Rattle.palm_node.specs.InnerNode.{InnerNode}
 use Rattle.palm_node.specs.declared.id.NodeId.{NodeId}
-use Rattle.palm_node.specs.declared.id.Piece.{Piece}
 use Rattle.palm_node.specs.declared.node.Node.{Node}
 use Rattle.palm_node.specs.declared.node.Node.TheVariants.{Inner}
 use Rattle.palm_node.specs.declared.change.Change.{Change}
 use Rattle.palm_node.specs.declared.change.Changes.{Changes}
-use Rattle.palm_node.specs.declared.change.Removed.{Removed}
-use Rattle.palm_arena.specs.Reads.{same_place, inner_in}
-use Rattle.palm_arena.specs.Cells.{Cell, Found, Nothing, One, Several, both, found, found_if, found_at, Owns, SameCells, Turns}
-use Rattle.palm_arena.specs.Placed.{Body, Placed, value_in, values, cells_of, cells_under, node_of, ids_of_children, lows_between, bare}
-use Rattle.palm_arena.specs.Sites.{Site, sites_of_children, sites_below, raised, sites_at, cell_of_site, cells_above, outcome_at}
-use Rattle.palm_arena.specs.Standing.{is_touched, Result, is_hit, StandsForItself, IsRight, loose_of, change_of, Kept, kept_cells, kept_rows, removed_of, Stands}
-use Rattle.palm_arena.proofs.Natural.{take-map, drop-map, length-map', cut-map, inside, with_lows-map, node_over-map, small-map}
-use Rattle.palm_arena.proofs.SitePasses.{site_pass, together, pass_below, outcome_below}
-use Rattle.palm_arena.proofs.LevelCells.{sites_children}
-use Rattle.palm_arena.proofs.CellLists.{at-append, same_cross, owned_same, owned_front, same_swap, same_trans, same_sym, same_eq, same_front, same_back}
-use Rattle.palm_arena.proofs.ListParts.{same_parted, same_each, perm_more, flat_each, flat_flat, map_map, flat_map', all_map, map_all, all_both, all_each, all_flat, flat_all, Parted, part}
-use Rattle.palm_level.specs.Families.{Family, IsPassed, with_ids, left_of, part_heads, pieces_under, gone_of, placed_left, bodies_left, is_worked, pieces_after, kept_after, result_after, nodes_before, nodes_after, removed_node, IsFull, IsFamily, HasIds, Worked}
-use Rattle.palm_base.specs.Lawful.{IsLawful}
-use Rattle.palm_base.proofs.SoundNodes.{low_of, first_has_low}
+use Rattle.palm_arena.specs.Reads.{inner_in}
+use Rattle.palm_arena.specs.Cells.{Cell, found_at, Owns}
+use Rattle.palm_arena.specs.Placed.{Placed, value_in, values, cells_under, node_of, ids_of_children, lows_between}
+use Rattle.palm_arena.specs.Sites.{Site, sites_of_children, sites_below, raised, sites_at, cell_of_site, cells_above}
+use Rattle.palm_arena.specs.Standing.{Result, is_hit, StandsForItself, change_of, kept_cells, Stands}
+use Rattle.palm_arena.proofs.Natural.{length-map'}
+use Rattle.palm_arena.proofs.CellLists.{owned_same, owned_front, same_swap}
+use Rattle.palm_arena.proofs.ListParts.{map_map, map_all, all_each, all_flat, flat_all}
+use Rattle.palm_level.specs.Families.{Family, IsPassed, is_worked, IsFull, IsFamily}
 use Rattle.palm_base.proofs.Batches.{highest, adds_below, root_wider}
-use Rattle.palm_arena.specs.Placed.{PlacedTree, value_of}
-use Rattle.palm_arena.proofs.Keeping.{same_id}
-use Rattle.palm_level.specs.Splices.{PlacesRise, last_step, path_above, children_of, children_left, spliced, later_lows, inner_over}
-use Rattle.palm_level.specs.Works.{Rise, CanSplice, parts_left}
+use Rattle.palm_level.specs.Splices.{PlacesRise, last_step, path_above, later_lows}
+use Rattle.palm_level.specs.Works.{Rise}
 use Rattle.palm_level.specs.Runs.{runs, parent_of}
-use Rattle.palm_level.specs.Groups.{Touched, touched_of, low_in, low_at, is_alone, is_still, nodes_left}
+use Rattle.palm_level.specs.Groups.{Touched, touched_of, low_in, low_at}
 use Rattle.palm_level.specs.Plans.{IsInnerAt, CanWork, Fits}
-use Rattle.palm_level.specs.Tasks.{Distinct, spare_in, spare_of}
-use Rattle.palm_level.proofs.Bare.{last_snoc, above_snoc, StepsFrom, own, drop_one, changes_in, family_own, family_steps, inner_of, family_left, family_length, family_places, flat_bare, left_bare}
-use Rattle.palm_level.proofs.Split.{Split, split, family_changes, changes_split, family_parents, parents_distinct, ids_in, some_hit, family_any, family_runs}
+use Rattle.palm_level.specs.Tasks.{Distinct}
+use Rattle.palm_level.proofs.Bare.{last_snoc, above_snoc, StepsFrom, drop_one, changes_in, family_steps, inner_of, family_left, family_places}
+use Rattle.palm_level.proofs.Split.{Split, family_changes, changes_split, family_parents, parents_distinct, ids_in, some_hit, family_any, family_runs}
 use Rattle.palm_level.proofs.SoundSites.{SoundSite, sound_parents, sound_full, left_rises}
 use Rattle.palm_level.proofs.Families.{passed_all}
-use Rattle.palm_level.proofs.Within.{under_more}
 
 -- ---- the node above
 
@@ -79,9 +61,10 @@ above_children nodes l path id i node (child ∷ []) edits held many at =
     (record { front = path; id = id; i = i; node = node; path-is = refl; held = held; inside = omega (arith, less, many); low-is = sym got.0 }, tt)
 above_children nodes l path id i node (child ∷ next ∷ children) edits held many at =
     let got = got_at i (0 ∷ node.separators) child.0 (map (λ (c : ℕ × Placed l). c.0) (next ∷ children)) at in
-    let less = got.1 in
-    (record { front = path; id = id; i = i; node = node; path-is = refl; held = held; inside = omega (arith, less, many); low-is = sym got.0 },
-    above_children nodes l path id (suc i) node (next ∷ children) (filter (goes_right next.0) edits) held many (drop_one i (0 ∷ node.separators) child.0 (map (λ (c : ℕ × Placed l). c.0) (next ∷ children)) at))
+    let less = got.1 in (
+      record { front = path; id = id; i = i; node = node; path-is = refl; held = held; inside = omega (arith, less, many); low-is = sym got.0 },
+      above_children nodes l path id (suc i) node (next ∷ children) (filter (goes_right next.0) edits) held many (drop_one i (0 ∷ node.separators) child.0 (map (λ (c : ℕ × Placed l). c.0) (next ∷ children)) at),
+    )
 
 -- The first low of a node is written 0.
 abbrev FirstIsZero : (l : ℕ) → Site (suc l) → Type 0
@@ -101,11 +84,12 @@ above_below nodes l s first held =
 
 owned_each : (nodes : NodeId → Option Node) (l : ℕ) (ss : List (Site (suc l))) (rest : List Cell) → Owns nodes (map (cell_of_site (suc l)) ss ++ rest) → AllByRecursion (λ (s : Site (suc l)). nodes s.place.0 ≡ Some (Inner (inner_of s.place.1))) ss
 owned_each nodes l [] rest owned = tt
-owned_each nodes l (s ∷ ss) rest owned =
-    ((owned_front nodes s.place.0 (node_of (suc l) s.place.1) (map (cell_of_site (suc l)) ss ++ rest) owned).0,
-    owned_each nodes l ss (rest ++ cell_of_site (suc l) s ∷ [])
-        (owned_same nodes (cell_of_site (suc l) s ∷ (map (cell_of_site (suc l)) ss ++ rest)) (map (cell_of_site (suc l)) ss ++ (rest ++ cell_of_site (suc l) s ∷ [])) owned
-        (λ i. same_swap (cell_of_site (suc l) s ∷ []) (map (cell_of_site (suc l)) ss ++ rest) i ∙ ap (found_at i) (append_assoc (map (cell_of_site (suc l)) ss) rest (cell_of_site (suc l) s ∷ [])))))
+owned_each nodes l (s ∷ ss) rest owned = (
+  (owned_front nodes s.place.0 (node_of (suc l) s.place.1) (map (cell_of_site (suc l)) ss ++ rest) owned).0,
+  owned_each nodes l ss (rest ++ cell_of_site (suc l) s ∷ [])
+      (owned_same nodes (cell_of_site (suc l) s ∷ (map (cell_of_site (suc l)) ss ++ rest)) (map (cell_of_site (suc l)) ss ++ (rest ++ cell_of_site (suc l) s ∷ [])) owned
+      (λ i. same_swap (cell_of_site (suc l) s ∷ []) (map (cell_of_site (suc l)) ss ++ rest) i ∙ ap (found_at i) (append_assoc (map (cell_of_site (suc l)) ss) rest (cell_of_site (suc l) s ∷ [])))),
+)
 
 -- ---- what is known of each family
 
@@ -146,14 +130,14 @@ setting d l high root W rest nodes changes st r s =
     let parents = sites_at (suc d) (suc l) root in
     let under = cells_under l (flat_map (λ result. result.pieces) st.results) ++ (flat_map kept_cells st.kept ++ rest) in
     let own_cells : Owns nodes (map (cell_of_site (suc l)) parents ++ (under ++ cells_above (suc d) (suc l) root)) =
-        owned_same nodes ((cells_above (suc d) (suc l) root ++ map (cell_of_site (suc l)) parents) ++ under) (map (cell_of_site (suc l)) parents ++ (under ++ cells_above (suc d) (suc l) root)) st.owned
-        (λ i. ap (found_at i) (append_assoc (cells_above (suc d) (suc l) root) (map (cell_of_site (suc l)) parents) under) ∙ same_swap (cells_above (suc d) (suc l) root) (map (cell_of_site (suc l)) parents ++ under) i
-        ∙ ap (found_at i) (append_assoc (map (cell_of_site (suc l)) parents) under (cells_above (suc d) (suc l) root))) in
+    owned_same nodes ((cells_above (suc d) (suc l) root ++ map (cell_of_site (suc l)) parents) ++ under) (map (cell_of_site (suc l)) parents ++ (under ++ cells_above (suc d) (suc l) root)) st.owned
+    (λ i. ap (found_at i) (append_assoc (cells_above (suc d) (suc l) root) (map (cell_of_site (suc l)) parents) under) ∙ same_swap (cells_above (suc d) (suc l) root) (map (cell_of_site (suc l)) parents ++ under) i
+    ∙ ap (found_at i) (append_assoc (map (cell_of_site (suc l)) parents) under (cells_above (suc d) (suc l) root))) in
     let more = map (cell_of_site (suc l)) parents ++ under in
     let grand_cells : Owns nodes (map (cell_of_site (suc (suc l))) grands ++ (more ++ cells_above d (suc (suc l)) root)) =
-        owned_same nodes ((cells_above (suc d) (suc l) root ++ map (cell_of_site (suc l)) parents) ++ under) (map (cell_of_site (suc (suc l))) grands ++ (more ++ cells_above d (suc (suc l)) root)) st.owned
-        (λ i. ap (found_at i) (append_assoc (cells_above (suc d) (suc l) root) (map (cell_of_site (suc l)) parents) under ∙ append_assoc (cells_above d (suc (suc l)) root) (map (cell_of_site (suc (suc l))) grands) more)
-        ∙ same_swap (cells_above d (suc (suc l)) root) (map (cell_of_site (suc (suc l))) grands ++ more) i ∙ ap (found_at i) (append_assoc (map (cell_of_site (suc (suc l))) grands) more (cells_above d (suc (suc l)) root))) in
+    owned_same nodes ((cells_above (suc d) (suc l) root ++ map (cell_of_site (suc l)) parents) ++ under) (map (cell_of_site (suc (suc l))) grands ++ (more ++ cells_above d (suc (suc l)) root)) st.owned
+    (λ i. ap (found_at i) (append_assoc (cells_above (suc d) (suc l) root) (map (cell_of_site (suc l)) parents) under ∙ append_assoc (cells_above d (suc (suc l)) root) (map (cell_of_site (suc (suc l))) grands) more)
+    ∙ same_swap (cells_above d (suc (suc l)) root) (map (cell_of_site (suc (suc l))) grands ++ more) i ∙ ap (found_at i) (append_assoc (map (cell_of_site (suc (suc l))) grands) more (cells_above d (suc (suc l)) root))) in
     let wide = high + highest root.edits in
     let sound = sound_parents d (suc l) wide root (root_wider (raised (suc (suc l)) d) high wide (value_in (raised (suc (suc l)) d) root.place.1) r (omega arith)) (adds_below wide root.edits (omega arith)) in
     let above = flat_all (λ (t : Site (suc l)). HasAbove nodes t.path t.low) (sites_below (suc l)) grands (aboves grands (first_zeros d (suc l) high root r) (owned_each nodes (suc l) grands (more ++ cells_above d (suc (suc l)) root) grand_cells)) in
@@ -203,7 +187,7 @@ above_low nodes path low above =
     ap (λ (s : NodeId × ℕ). low_in (inner_in (nodes s.0)) s.1) (ap last_step above.path-is ∙ last_snoc above.front (above.id, above.i))
     ∙ ap (λ (o : Option Node). low_in (inner_in o) above.i) above.held ∙ sym above.low-is
 
-some_change : (W : NodeId → Bool) (l : ℕ) (f : Family l) → IsFamily l f → is_worked W l f ≡ true → 1 ≤ length (family_changes W l f)
+pub some_change : (W : NodeId → Bool) (l : ℕ) (f : Family l) → IsFamily l f → is_worked W l f ≡ true → 1 ≤ length (family_changes W l f)
 some_change W l f e worked = by (filter (is_hit W l) f.children) refl
   where
     by : (rs : List (Result l)) → filter (is_hit W l) f.children ≡ rs → 1 ≤ length (map (change_of l) rs)

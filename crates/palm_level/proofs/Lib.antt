@@ -1,4 +1,5 @@
 mod Bare
+mod Bounds
 mod CutSteps
 mod Ending
 mod Families
@@ -7,6 +8,7 @@ mod LaterParts
 mod Lending
 mod LevelEnds
 mod LevelFacts
+mod LevelFits
 mod Parent
 mod PuttingBack
 mod Rising

@@ -1,36 +1,23 @@
 -- From a node's children's pieces to its own: the values, and the cells.
-use Rattle.std.proofs.Common.{◌≡◌, ◌+◌, ℕ, zero, suc, Bool, true, false, cond, List, [], ◌∷◌, ◌++◌, length, map, refl, sym, ap, ◌∙◌, arith}
+use Rattle.std.proofs.Common.{◌≡◌, ℕ, suc, Bool, true, false, List, [], ◌∷◌, ◌++◌, length, map, refl, sym, ap, ◌∙◌, arith}
 use mathlib.Core.List.{map-append}
 use Rattle.std.specs.List.{flat_map, AllByRecursion}
 use Rattle.std.proofs.lemmas.List.Concat.{flat_map-append}
-use Rattle.palm_base.specs.Cut.{cut, piece_count}
-use Rattle.palm_base.specs.Tree.{Subtree, rows_in}
-use Rattle.palm_base.specs.Pass.{Outcome, with_lows, node_over, nodes_over, first_low, is_small, inner_outcome, below, pass, rows_under, pass, goes_left, goes_right}
-use Rattle.palm_base.specs.Lawful.{next_low, HasFromTo, Sound, InOrder, Root}
+use Rattle.palm_base.specs.Cut.{cut}
+use Rattle.palm_base.specs.Tree.{Subtree}
+use Rattle.palm_base.specs.Pass.{Outcome, with_lows, node_over, nodes_over, first_low, is_small, inner_outcome, below, pass, pass}
 use Rattle.palm_base.specs.declared.bounds.TheConstants.{LEAST_CHILDREN, MOST_CHILDREN}
-use Rattle.palm_base.specs.declared.row.Row.{Row}
-use Rattle.palm_base.specs.declared.call.Call.{Call}
-use Rattle.palm_base.proofs.Cuts.{pieces_join, few_are_one_piece, pieces_are_counted}
-use Rattle.palm_base.proofs.CutParts.{large}
-use Rattle.palm_node.specs.InnerNode.{InnerNode}
+use Rattle.palm_base.proofs.Cuts.{pieces_join}
 use Rattle.palm_node.specs.declared.id.NodeId.{NodeId}
-use Rattle.palm_node.specs.declared.id.Piece.{Piece}
-use Rattle.palm_node.specs.declared.node.Node.{Node}
 use Rattle.palm_node.specs.declared.node.Node.TheVariants.{Inner}
-use Rattle.palm_node.specs.declared.change.Change.{Change}
-use Rattle.palm_node.specs.declared.change.Changes.{Changes}
-use Rattle.palm_node.specs.declared.change.Removed.{Removed}
-use Rattle.palm_arena.specs.Reads.{same_place}
-use Rattle.palm_arena.specs.Cells.{Cell, Found, Nothing, One, Several, both, found, found_if, found_at, Owns, SameCells, Turns}
-use Rattle.palm_arena.specs.Placed.{Body, Placed, value_in, values, cells_of, cells_under, node_of, ids_of_children, lows_between, bare}
-use Rattle.palm_arena.specs.Sites.{Site, sites_of_children, sites_below, raised, sites_at, cell_of_site, cells_above, outcome_at}
-use Rattle.palm_arena.specs.Standing.{is_touched, Result, is_hit, StandsForItself, IsRight, loose_of, change_of, Kept, kept_cells, kept_rows, removed_of, Stands}
-use Rattle.palm_arena.proofs.Natural.{take-map, drop-map, length-map', cut-map, inside, with_lows-map, node_over-map, small-map}
-use Rattle.palm_arena.proofs.SitePasses.{below_sites, site_pass, together, pass_below, outcome_below}
-use Rattle.palm_arena.proofs.LevelCells.{sites_children}
-use Rattle.palm_arena.proofs.CellLists.{at-append, same_cross, owned_same, owned_front, same_swap, same_trans, same_sym, same_eq, same_front, same_back}
-use Rattle.palm_arena.proofs.ListParts.{same_parted, same_each, perm_more, flat_each, flat_flat, map_map, flat_map', all_map, map_all, all_both, all_each, all_flat, flat_all, Parted, part}
-use Rattle.palm_level.specs.Families.{Family, IsPassed, with_ids, left_of, part_heads, pieces_under, gone_of, placed_left, bodies_left, is_worked, pieces_after, kept_after, result_after, nodes_before, nodes_after, removed_node, IsFull, IsFamily, HasIds, Worked}
+use Rattle.palm_arena.specs.Cells.{both, found_at, SameCells}
+use Rattle.palm_arena.specs.Placed.{Body, Placed, value_in, values, cells_of, cells_under, ids_of_children, lows_between}
+use Rattle.palm_arena.specs.Sites.{Site, sites_below}
+use Rattle.palm_arena.specs.Standing.{Result}
+use Rattle.palm_arena.proofs.Natural.{cut-map, inside, with_lows-map, node_over-map, small-map}
+use Rattle.palm_arena.proofs.SitePasses.{below_sites, site_pass, together}
+use Rattle.palm_arena.proofs.CellLists.{at-append, same_cross}
+use Rattle.palm_level.specs.Families.{IsPassed, with_ids, left_of, part_heads, pieces_under, gone_of}
 
 -- parts under ids have the parts' values
 pub ids_values : (l : ℕ) (ids : List NodeId) (parts : List (ℕ × Body (suc l))) → length ids ≡ length parts → values (suc l) (with_ids ids parts) ≡ map {B = ℕ × Subtree (suc l)} (inside (value_in (suc l))) parts
@@ -97,8 +84,10 @@ parent_right l s rs ids e a n =
   where
     children : List (ℕ × Placed l)
     children = pieces_under l rs
+
     o : Outcome l
     o = outcome_of_results l rs
+
     by : (b : Bool) → is_small LEAST_CHILDREN children ≡ b → map {B = ℕ × Subtree (suc l)} (inside (value_in (suc l))) (left_of s.low children) ≡ (inner_outcome l s.low (record { pieces = values l children; loose = o.loose })).pieces
     by true q = rw (small-map {B = ℕ × Subtree l} (λ (child : ℕ × Placed l). (child.0, value_in l child.1.1)) LEAST_CHILDREN children, q)
     by false q = rw (small-map {B = ℕ × Subtree l} (λ (child : ℕ × Placed l). (child.0, value_in l child.1.1)) LEAST_CHILDREN children, q) (parts_values l s.low children)
@@ -114,8 +103,10 @@ parent_loose l s rs e a =
   where
     children : List (ℕ × Placed l)
     children = pieces_under l rs
+
     o : Outcome l
     o = outcome_of_results l rs
+
     by : (b : Bool) → is_small LEAST_CHILDREN children ≡ b → (inner_outcome l s.low (record { pieces = values l children; loose = o.loose })).loose ≡ gone_of l children ++ o.loose
     by true q = rw (small-map {B = ℕ × Subtree l} (λ (child : ℕ × Placed l). (child.0, value_in l child.1.1)) LEAST_CHILDREN children, q)
     by false q = rw (small-map {B = ℕ × Subtree l} (λ (child : ℕ × Placed l). (child.0, value_in l child.1.1)) LEAST_CHILDREN children, q)

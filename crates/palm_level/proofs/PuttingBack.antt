@@ -1,5 +1,5 @@
 -- A node that was made anew is put back: nothing, a removed node, or pieces stand for it.
-use Rattle.std.proofs.Common.{◌≡◌, ◌+◌, ◌<◌, ◌≤◌, ℕ, zero, suc, Bool, true, false, cond, List, [], ◌∷◌, ◌++◌, length, map, drop, refl, sym, ap, ◌∙◌, arith, subst, append_assoc}
+use Rattle.std.proofs.Common.{◌≡◌, ◌≤◌, ℕ, suc, Bool, true, false, cond, List, [], ◌∷◌, ◌++◌, length, map, drop, refl, sym, ap, ◌∙◌, arith, subst}
 use Rattle.std.proofs.lemmas.List.{append-nil}
 use Rattle.std.proofs.lemmas.Bool.{ltb-true}
 use Rattle.palm_base.specs.Cut.{cut}
@@ -15,11 +15,11 @@ use Rattle.palm_node.specs.declared.change.Removed.{Removed}
 use Rattle.palm_arena.specs.ArenaState.{ArenaState, with_place, IsLent}
 use Rattle.palm_arena.specs.declared.place.Place.TheVariants.{Empty, Holds}
 use Rattle.palm_arena.specs.Reads.{map_of}
-use Rattle.palm_arena.specs.Cells.{Cell, Turns}
+use Rattle.palm_arena.specs.Cells.{Turns}
 use Rattle.palm_arena.proofs.Turning.{turns_then}
 use Rattle.palm_level.specs.Splices.{children_left, inner_over}
-use Rattle.palm_level.specs.Works.{first_node, parts_left, part_over}
-use Rattle.palm_level.specs.Groups.{Touched, Group, nodes_left, group_left, group_nodes, cells_at, named_pieces, removed_cell, cells_after, group_removed}
+use Rattle.palm_level.specs.Works.{first_node, part_over}
+use Rattle.palm_level.specs.Groups.{Group, nodes_left, cells_at, named_pieces, cells_after}
 use Rattle.palm_level.specs.Tasks.{MadeOf, PutsBack, Took, as_node}
 use Rattle.palm_level.specs.declared.node_work.Part.{Part}
 use Rattle.palm_level.specs.declared.node_work.LevelWork.{LevelWork}
@@ -73,14 +73,16 @@ pub back_none : (level low : ℕ) (work : LevelWork) (a b c : ArenaState) (remov
     → (ids : List NodeId) × PutsBack level (group_of work low node changes path ids) a c removed removed pieces
 back_none level low work a b c removed pieces node changes path made none lent given dropped nil =
     let left = nothing_left low (children_left node changes) (ap length (sym made.children) ∙ none) in
-    let cells : cells_after (group_of work low node changes path []) ≡ [] = ap (λ s. cond s ((work.lease.id, Inner (inner_over (children_left node changes))) ∷ []) []) left.1 in
-    ([], record {
-      many = sym (ap length left.0);
-      turns = subst (Turns (map_of a.places) (map_of c.places) []) (sym cells)
-          (turns_then (map_of a.places) (map_of b.places) (map_of c.places) [] ((work.lease.id, work.lease.node) ∷ []) [] (given_turns a b work.lease.id work.lease.node lent given) (dropped_turns b c work.lease.id work.lease.node dropped));
-      pieces-are = nil;
-      removed = sym (append-nil removed) ∙ ap (λ (s : Bool). removed ++ cond s (record { level = level; id = work.lease.id } ∷ []) []) (sym left.1);
-    })
+    let cells : cells_after (group_of work low node changes path []) ≡ [] = ap (λ s. cond s ((work.lease.id, Inner (inner_over (children_left node changes))) ∷ []) []) left.1 in (
+      [],
+      record {
+        many = sym (ap length left.0);
+        turns = subst (Turns (map_of a.places) (map_of c.places) []) (sym cells)
+            (turns_then (map_of a.places) (map_of b.places) (map_of c.places) [] ((work.lease.id, work.lease.node) ∷ []) [] (given_turns a b work.lease.id work.lease.node lent given) (dropped_turns b c work.lease.id work.lease.node dropped));
+        pieces-are = nil;
+        removed = sym (append-nil removed) ∙ ap (λ (s : Bool). removed ++ cond s (record { level = level; id = work.lease.id } ∷ []) []) (sym left.1);
+      },
+    )
 
 -- Few children are left: the node stays with them, to be removed.
 pub back_few : (level low : ℕ) (work : LevelWork) (a b : ArenaState) (removed after : List Removed) (pieces : List Piece) (node : InnerNode) (changes : List Change) (path : List (NodeId × ℕ))
@@ -92,13 +94,15 @@ back_few level low work a b removed after pieces node changes path made small le
     let left = few_left low (children_left node changes) is in
     let own : work.lease.node ≡ Inner (inner_over (children_left node changes)) = made.own ∙ ap (λ ps. Inner (first_node node ps)) left.1 in
     let cells : cells_after (group_of work low node changes path []) ≡ (work.lease.id, work.lease.node) ∷ [] =
-        ap (λ s. cond s ((work.lease.id, Inner (inner_over (children_left node changes))) ∷ []) []) is ∙ ap (λ (n : _). (work.lease.id, n) ∷ []) (sym own) in
-    ([], record {
-      many = sym (ap length left.0);
-      turns = subst (Turns (map_of a.places) (map_of b.places) []) (sym cells) (given_turns a b work.lease.id work.lease.node lent given);
-      pieces-are = nil;
-      removed = more ∙ ap (λ (s : Bool). removed ++ cond s (record { level = level; id = work.lease.id } ∷ []) []) (sym is);
-    })
+    ap (λ s. cond s ((work.lease.id, Inner (inner_over (children_left node changes))) ∷ []) []) is ∙ ap (λ (n : _). (work.lease.id, n) ∷ []) (sym own) in (
+      [],
+      record {
+        many = sym (ap length left.0);
+        turns = subst (Turns (map_of a.places) (map_of b.places) []) (sym cells) (given_turns a b work.lease.id work.lease.node lent given);
+        pieces-are = nil;
+        removed = more ∙ ap (λ (s : Bool). removed ++ cond s (record { level = level; id = work.lease.id } ∷ []) []) (sym is);
+      },
+    )
 
 -- Enough children are left: the first part keeps the id, and the later ones take new ones.
 pub back_many : (level low : ℕ) (work : LevelWork) (a b c : ArenaState) (removed : List Removed) (first pieces : List Piece) (node : InnerNode) (changes : List Change) (path : List (NodeId × ℕ))
@@ -115,16 +119,18 @@ back_many level low work a b c removed first pieces node changes path made some 
     let nodes : nodes_left low left ≡ (low, inner_over part.part) ∷ map as_node work.later.items = part.nodes ∙ ap (λ (ns : List (ℕ × InnerNode)). (low, inner_over part.part) ∷ ns) (sym rest) in
     let ids = work.lease.id ∷ took.ids in
     let cells : cells_after (group_of work low node changes path ids) ≡ (work.lease.id, work.lease.node) ∷ cells_at took.ids (map as_node work.later.items) =
-        ap (λ s. cells_at ids (nodes_left low left) ++ cond s ((work.lease.id, Inner (inner_over left)) ∷ []) []) is
-        ∙ append-nil (cells_at ids (nodes_left low left)) ∙ ap (cells_at ids) nodes ∙ ap (λ n. (work.lease.id, n) ∷ cells_at took.ids (map as_node work.later.items)) (sym own) in
-    let counted : length took.ids ≡ length (map as_node work.later.items) = took.many ∙ sym (length_as_nodes work.later.items) in
-    (ids, record {
-      many = ap suc counted ∙ sym (ap length nodes);
-      turns = subst (Turns (map_of a.places) (map_of c.places) []) (sym cells)
-          (turns_more (map_of a.places) (map_of b.places) (map_of c.places) ((work.lease.id, work.lease.node) ∷ []) (cells_at took.ids (map as_node work.later.items)) (given_turns a b work.lease.id work.lease.node lent given) took.turns);
-      pieces-are = took.pieces ∙ ap (λ ps. ps ++ named_pieces took.ids (map as_node work.later.items)) one ∙ ap (named_pieces ids) (sym nodes);
-      removed = sym (append-nil removed) ∙ ap (λ (s : Bool). removed ++ cond s (record { level = level; id = work.lease.id } ∷ []) []) (sym is);
-    })
+    ap (λ s. cells_at ids (nodes_left low left) ++ cond s ((work.lease.id, Inner (inner_over left)) ∷ []) []) is
+    ∙ append-nil (cells_at ids (nodes_left low left)) ∙ ap (cells_at ids) nodes ∙ ap (λ n. (work.lease.id, n) ∷ cells_at took.ids (map as_node work.later.items)) (sym own) in
+    let counted : length took.ids ≡ length (map as_node work.later.items) = took.many ∙ sym (length_as_nodes work.later.items) in (
+      ids,
+      record {
+        many = ap suc counted ∙ sym (ap length nodes);
+        turns = subst (Turns (map_of a.places) (map_of c.places) []) (sym cells)
+            (turns_more (map_of a.places) (map_of b.places) (map_of c.places) ((work.lease.id, work.lease.node) ∷ []) (cells_at took.ids (map as_node work.later.items)) (given_turns a b work.lease.id work.lease.node lent given) took.turns);
+        pieces-are = took.pieces ∙ ap (λ ps. ps ++ named_pieces took.ids (map as_node work.later.items)) one ∙ ap (named_pieces ids) (sym nodes);
+        removed = sym (append-nil removed) ∙ ap (λ (s : Bool). removed ++ cond s (record { level = level; id = work.lease.id } ∷ []) []) (sym is);
+      },
+    )
   where
     length_as_nodes : (parts : List Part) → length (map as_node parts) ≡ length parts
     length_as_nodes [] = refl

@@ -1,6 +1,6 @@
 -- The first run of changes, and what is counted of changes and paths one after another.
-use Rattle.std.proofs.Common.{◌≡◌, ◌≢◌, ◌≤◌, ◌<◌, ◌+◌, ◌-◌, ℕ, zero, suc, List, [], ◌∷◌, ◌++◌, length, take, drop, get_or, refl, sym, ap, ◌∙◌, arith, subst, Some}
-use Rattle.std.specs.Prelude.{sum_by, slice_get}
+use Rattle.std.proofs.Common.{◌≡◌, ◌≢◌, ◌≤◌, ◌<◌, ◌+◌, ◌-◌, ℕ, zero, suc, List, [], ◌∷◌, ◌++◌, length, take, drop, get_or, sym, ap, ◌∙◌, arith, subst, Some}
+use Rattle.std.specs.Prelude.{slice_get}
 use Rattle.std.specs.List.{AllByRecursion}
 use Rattle.std.proofs.lemmas.List.Sums.{sum_by-cons}
 use Rattle.std.proofs.lemmas.List.{length-drop, length-take-le, take-append-drop, drop_all, length-append, take_more}
@@ -14,7 +14,7 @@ use Rattle.palm_node.specs.declared.change.Change.{Change}
 use Rattle.std.specs.Prelude.{not, true}
 use Rattle.std.proofs.Common.{eq-eqb}
 use Rattle.palm_arena.specs.Reads.{same_place}
-use Rattle.palm_level.specs.Splices.{path_above, spliced, children_of, children_left, PlacesRise, child_place}
+use Rattle.palm_level.specs.Splices.{spliced, children_of, children_left, PlacesRise, child_place}
 use Rattle.palm_level.specs.Runs.{parent_of, runs}
 use Rattle.palm_level.specs.Plans.{piece_total}
 use Rattle.palm_level.proofs.Split.{Apart, run_front}

@@ -1,38 +1,22 @@
 -- Work by ids is the work on the families.
-use Rattle.std.proofs.Common.{◌≡◌, ℕ, zero, suc, Bool, true, false, cond, ◌&&◌, List, [], ◌∷◌, ◌++◌, length, map, refl, sym, ap, ◌∙◌, arith, subst, Option}
+use Rattle.std.proofs.Common.{◌≡◌, ℕ, suc, Bool, true, false, cond, List, [], ◌∷◌, ◌++◌, length, map, refl, sym, ap, ◌∙◌, subst, Option}
 use Rattle.std.specs.List.{flat_map, AllByRecursion, filter}
-use Rattle.std.proofs.lemmas.List.Concat.{flat_map-append}
 use mathlib.Core.List.{map-append}
-use Rattle.palm_base.specs.Cut.{cut, piece_count}
-use Rattle.palm_base.specs.Tree.{Subtree, rows_in}
-use Rattle.palm_base.specs.Pass.{Outcome, with_lows, node_over, nodes_over, first_low, is_small, inner_outcome, rows_under, pass, goes_left, goes_right}
-use Rattle.palm_base.specs.Lawful.{next_low, HasFromTo, Sound, InOrder, Root}
-use Rattle.palm_base.specs.declared.bounds.TheConstants.{LEAST_CHILDREN, MOST_CHILDREN}
-use Rattle.palm_base.specs.declared.row.Row.{Row}
-use Rattle.palm_base.specs.declared.call.Call.{Call}
-use Rattle.palm_base.proofs.Cuts.{pieces_join, few_are_one_piece, pieces_are_counted}
-use Rattle.palm_base.proofs.CutParts.{large}
+use Rattle.palm_base.specs.Pass.{node_over, is_small}
+use Rattle.palm_base.specs.declared.bounds.TheConstants.{LEAST_CHILDREN}
 use Rattle.palm_node.specs.InnerNode.{InnerNode}
 use Rattle.palm_node.specs.declared.id.NodeId.{NodeId}
 use Rattle.palm_node.specs.declared.id.Piece.{Piece}
 use Rattle.palm_node.specs.declared.node.Node.{Node}
-use Rattle.palm_node.specs.declared.node.Node.TheVariants.{Inner}
-use Rattle.palm_node.specs.declared.change.Change.{Change}
 use Rattle.palm_node.specs.declared.change.Changes.{Changes}
-use Rattle.palm_node.specs.declared.change.Removed.{Removed}
-use Rattle.palm_arena.specs.Reads.{same_place}
-use Rattle.palm_arena.specs.Cells.{Cell, Found, Nothing, One, Several, both, found, found_if, found_at, Owns, SameCells, Turns}
-use Rattle.palm_arena.specs.Placed.{Body, Placed, value_in, values, cells_of, cells_under, node_of, ids_of_children, lows_between, bare}
-use Rattle.palm_arena.specs.Sites.{Site, sites_of_children, sites_below, raised, sites_at, cell_of_site, cells_above, outcome_at}
-use Rattle.palm_arena.specs.Standing.{is_touched, Result, is_hit, StandsForItself, IsRight, loose_of, change_of, Kept, kept_cells, kept_rows, removed_of, Stands}
-use Rattle.palm_arena.proofs.Natural.{take-map, drop-map, length-map', cut-map, inside, with_lows-map, node_over-map, small-map}
-use Rattle.palm_arena.proofs.SitePasses.{site_pass, together, pass_below, outcome_below}
-use Rattle.palm_arena.proofs.LevelCells.{sites_children}
-use Rattle.palm_arena.proofs.CellLists.{at-append, same_cross, owned_same, owned_front, same_swap, same_trans, same_sym, same_eq, same_front, same_back}
-use Rattle.palm_arena.proofs.ListParts.{same_parted, same_each, perm_more, flat_each, flat_flat, map_map, flat_map', all_map, map_all, all_both, all_each, all_flat, flat_all, Parted, part}
-use Rattle.palm_level.specs.Families.{Family, IsPassed, with_ids, left_of, part_heads, pieces_under, gone_of, placed_left, bodies_left, is_worked, pieces_after, kept_after, result_after, nodes_before, nodes_after, removed_node, IsFull, IsFamily, HasIds, Worked}
+use Rattle.palm_arena.specs.Cells.{Cell, Turns}
+use Rattle.palm_arena.specs.Placed.{Body, Placed, node_of, bare}
+use Rattle.palm_arena.specs.Sites.{Site, raised, sites_at}
+use Rattle.palm_arena.specs.Standing.{is_hit, StandsForItself, change_of, removed_of, Stands}
+use Rattle.palm_arena.proofs.Natural.{length-map', inside, small-map}
+use Rattle.palm_level.specs.Families.{Family, with_ids, part_heads, placed_left, bodies_left, is_worked, kept_after, result_after, nodes_before, nodes_after, removed_node, IsFull, IsFamily, HasIds, Worked}
 use Rattle.palm_level.specs.Splices.{inner_over}
-use Rattle.palm_level.specs.Groups.{Touched, Group, group_left, nodes_left, group_nodes, cells_at, named_pieces, cells_before, removed_cell, cells_after, group_change, group_removed}
+use Rattle.palm_level.specs.Groups.{Group, group_left, nodes_left, group_nodes, cells_at, named_pieces, cells_before, removed_cell, cells_after, group_change, group_removed}
 use Rattle.palm_level.proofs.Bare.{changes_in, inner_of, family_left, left_bare, inner_bare}
 use Rattle.palm_level.proofs.Families.{level_stands}
 
@@ -170,5 +154,5 @@ run_stands d l root W rest m m' seen seen' st fs fs' gs ps ks r a t e =
     } in
     let done = level_stands d l root W rest m m' seen st fs' w in
     let same : ◌≡◌ {A = Changes} (record { nodes = map (change_of (suc l)) (filter (is_hit W (suc l)) (map (result_after W l) fs')); loose = seen.loose; removed = seen.removed ++ map removed_of (flat_map (kept_after W l) fs') }) seen' =
-        (λ i. record { nodes = x.nodes i; loose = seen.loose; removed = seen.removed ++ x.gone i }) ∙ sym e in
+    (λ i. record { nodes = x.nodes i; loose = seen.loose; removed = seen.removed ++ x.gone i }) ∙ sym e in
     subst (Stands d (suc l) root W rest m') same done

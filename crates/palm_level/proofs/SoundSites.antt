@@ -1,8 +1,8 @@
 -- In a lawful tree each node below the root is sound, and the edits that go to it put rows within its bounds.
-use Rattle.std.proofs.Common.{◌≡◌, ◌≤◌, ◌<◌, ℕ, zero, suc, List, [], ◌∷◌, length, map, refl, sym, ap, ◌∙◌, arith, subst}
-use Rattle.std.specs.List.{flat_map, filter, AllByRecursion}
+use Rattle.std.proofs.Common.{◌≡◌, ◌<◌, ℕ, zero, suc, List, [], ◌∷◌, map, refl, sym, ap, ◌∙◌, arith, subst}
+use Rattle.std.specs.List.{filter, AllByRecursion}
 use Rattle.palm_base.specs.Tree.{Subtree}
-use Rattle.palm_base.specs.Pass.{Outcome, goes_left, goes_right, below, pass}
+use Rattle.palm_base.specs.Pass.{Outcome, goes_right}
 use Rattle.palm_base.specs.Lawful.{next_low, IsIn, Sound, InOrder, Root}
 use Rattle.palm_base.specs.declared.call.Call.{Call}
 use Rattle.palm_base.proofs.TableSplits.{Adds}
@@ -14,10 +14,10 @@ use Rattle.palm_arena.specs.Placed.{Placed, value_in, values, bare}
 use Rattle.palm_arena.specs.Sites.{Site, sites_of_children, sites_below, raised, sites_at}
 use Rattle.palm_arena.proofs.Natural.{length-map'}
 use Rattle.palm_arena.proofs.ListParts.{flat_all, all_each}
-use Rattle.palm_level.specs.Families.{Family, IsFull, IsFamily, IsPassed, pieces_under, placed_left}
+use Rattle.palm_level.specs.Families.{Family, IsFull, IsFamily, IsPassed, placed_left}
 use Rattle.palm_level.specs.Splices.{later_lows}
 use Rattle.palm_level.specs.Works.{Rise}
-use Rattle.palm_level.proofs.Parent.{outcome_of_results, below_results, joined_values}
+use Rattle.palm_level.proofs.Parent.{below_results, joined_values}
 
 -- Between some bounds the node at a site is sound, and the edits that go to it put rows there.
 abbrev pub SoundSite : (l : ℕ) → Site l → Type 0
@@ -31,9 +31,10 @@ children_sound : (l lo hi : ℕ) (path : List (NodeId × ℕ)) (id : NodeId) (i 
     → InOrder l lo hi (values l children) → AllByRecursion (Adds (IsIn lo hi)) edits → AllByRecursion (SoundSite l) (sites_of_children l path id i children edits)
 children_sound l lo hi path id i [] edits order adds = tt
 children_sound l lo hi path id i (child ∷ []) edits order adds = ((lo, hi, order.0.1, adds), tt)
-children_sound l lo hi path id i (child ∷ next ∷ children) edits order adds =
-    ((lo, next.0, order.0.1, left_edits lo next.0 hi edits adds),
-    children_sound l next.0 hi path id (suc i) (next ∷ children) (filter (goes_right next.0) edits) order.1 (right_edits lo next.0 hi edits adds))
+children_sound l lo hi path id i (child ∷ next ∷ children) edits order adds = (
+  (lo, next.0, order.0.1, left_edits lo next.0 hi edits adds),
+  children_sound l next.0 hi path id (suc i) (next ∷ children) (filter (goes_right next.0) edits) order.1 (right_edits lo next.0 hi edits adds),
+)
 
 below_sound : (l : ℕ) (site : Site (suc l)) → ChildrenSite l site → AllByRecursion (SoundSite l) (sites_below l site)
 below_sound l site k = children_sound l k.0 k.1 site.path site.place.0 0 site.place.1 site.edits k.2 k.3

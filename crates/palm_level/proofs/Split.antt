@@ -1,41 +1,27 @@
 -- The results of a level by their parents, and the runs of the ChangesAt.
-use Rattle.std.proofs.Common.{◌≡◌, ◌≢◌, ◌==◌, ℕ, zero, suc, Bool, true, false, cond, ◌||◌, List, [], ◌∷◌, ◌++◌, length, map, refl, sym, ap, ◌∙◌, arith, subst, eq-eqb, eqb-true, Option, append_assoc}
+use Rattle.std.proofs.Common.{◌≡◌, ◌≢◌, ℕ, suc, Bool, true, false, cond, ◌||◌, List, [], ◌∷◌, ◌++◌, map, refl, sym, ap, ◌∙◌, subst, eq-eqb, eqb-true, Option, append_assoc}
 use Rattle.std.specs.List.{flat_map, filter, AllByRecursion, list_any}
 use Rattle.std.proofs.lemmas.List.Elements.{filter-append}
 use mathlib.Core.List.{map-append}
-use Rattle.palm_base.specs.Cut.{cut, piece_count}
-use Rattle.palm_base.specs.Tree.{Subtree, rows_in}
-use Rattle.palm_base.specs.Pass.{Outcome, with_lows, node_over, nodes_over, first_low, is_small, inner_outcome, rows_under, pass, goes_left, goes_right}
-use Rattle.palm_base.specs.Lawful.{next_low, HasFromTo, Sound, InOrder, Root}
-use Rattle.palm_base.specs.declared.bounds.TheConstants.{LEAST_CHILDREN, MOST_CHILDREN}
-use Rattle.palm_base.specs.declared.row.Row.{Row}
+use Rattle.palm_base.specs.Pass.{goes_right}
 use Rattle.palm_base.specs.declared.call.Call.{Call}
-use Rattle.palm_base.proofs.Cuts.{pieces_join, few_are_one_piece, pieces_are_counted}
-use Rattle.palm_base.proofs.CutParts.{large}
-use Rattle.palm_node.specs.InnerNode.{InnerNode}
 use Rattle.palm_node.specs.declared.id.NodeId.{NodeId}
-use Rattle.palm_node.specs.declared.id.Piece.{Piece}
 use Rattle.palm_node.specs.declared.node.Node.{Node}
-use Rattle.palm_node.specs.declared.node.Node.TheVariants.{Inner}
 use Rattle.palm_node.specs.declared.change.Change.{Change}
-use Rattle.palm_node.specs.declared.change.Changes.{Changes}
-use Rattle.palm_node.specs.declared.change.Removed.{Removed}
 use Rattle.palm_arena.specs.Reads.{same_place}
-use Rattle.palm_arena.specs.Cells.{Cell, Found, Nothing, One, Several, both, found, found_if, found_at, Owns, SameCells, Turns}
-use Rattle.palm_arena.specs.Placed.{Body, Placed, value_in, values, cells_of, cells_under, node_of, ids_of_children, lows_between, bare}
-use Rattle.palm_arena.specs.Sites.{Site, sites_of_children, sites_below, raised, sites_at, cell_of_site, cells_above, outcome_at}
-use Rattle.palm_arena.specs.Standing.{is_touched, Result, is_hit, StandsForItself, IsRight, loose_of, change_of, Kept, kept_cells, kept_rows, removed_of, Stands}
-use Rattle.palm_arena.proofs.Natural.{take-map, drop-map, length-map', cut-map, inside, with_lows-map, node_over-map, small-map}
-use Rattle.palm_arena.proofs.SitePasses.{site_pass, together, pass_below, outcome_below}
+use Rattle.palm_arena.specs.Cells.{Cell, Found, Nothing, One, Several, both, found_if, found_at, Owns}
+use Rattle.palm_arena.specs.Placed.{Placed}
+use Rattle.palm_arena.specs.Sites.{Site, sites_of_children, sites_below, cell_of_site}
+use Rattle.palm_arena.specs.Standing.{is_touched, Result, is_hit, change_of}
 use Rattle.palm_arena.proofs.LevelCells.{sites_children}
-use Rattle.palm_arena.proofs.CellLists.{at-append, same_cross, owned_same, owned_front, same_swap, same_trans, same_sym, same_eq, same_front, same_back}
-use Rattle.palm_arena.proofs.ListParts.{same_parted, same_each, perm_more, flat_each, flat_flat, map_map, flat_map', all_map, map_all, all_both, all_each, all_flat, flat_all, Parted, part}
+use Rattle.palm_arena.proofs.CellLists.{owned_same, owned_front, same_swap}
+use Rattle.palm_arena.proofs.ListParts.{map_all, part}
 use Rattle.palm_level.specs.Splices.{last_step}
 use Rattle.palm_level.specs.Runs.{parent_of, add_run, runs}
-use Rattle.palm_level.proofs.Bare.{last_snoc, changes_in}
+use Rattle.palm_level.proofs.Bare.{last_snoc}
 use Rattle.palm_arena.proofs.Keeping.{same_id}
 use Rattle.palm_level.specs.Tasks.{Distinct}
-use Rattle.palm_level.specs.Families.{Family, IsPassed, with_ids, left_of, part_heads, pieces_under, gone_of, placed_left, bodies_left, is_worked, pieces_after, kept_after, result_after, nodes_before, nodes_after, removed_node, IsFull, IsFamily, HasIds, Worked}
+use Rattle.palm_level.specs.Families.{Family, is_worked, IsFamily}
 
 -- the families of a level's results
 pub record Split (l : ℕ) (ps : List (Site (suc l))) (rs : List (Result l)) : Type 0 where
@@ -128,6 +114,7 @@ run_front x (y ∷ ys) rest a n =
     same : (zs : List Change) → AllByRecursion (λ z. parent_of z ≡ parent_of x) zs → AllByRecursion (λ z. parent_of z ≡ parent_of y) zs
     same [] b = tt
     same (z ∷ zs) b = (b.0 ∙ sym a.0, same zs b.1)
+
     apart : (zs : List Change) → Apart (parent_of x) zs → Apart (parent_of y) zs
     apart [] b = tt
     apart (z ∷ zs) b = λ e. b (sym a.0 ∙ e)
@@ -201,6 +188,7 @@ family_runs W l (f ∷ fs) a d = by (is_worked W l f) refl (family_runs W l fs a
             unmap : (rs : List (Result l)) → map (change_of l) rs ≡ [] → rs ≡ []
             unmap [] q = refl
             unmap (r ∷ rs) q = absurd (cc)
+
         cases : (cs : List Change) → AllByRecursion (λ c. parent_of c ≡ f.parent.place.0) cs → (cs ≡ [] → ⊥) → runs (cs ++ flat_map (family_changes W l) fs) ≡ cs ∷ runs (flat_map (family_changes W l) fs)
         cases [] p n = absurd (n refl)
         cases (c ∷ cs) p n = run_front c cs (flat_map (family_changes W l) fs) (same cs p.1) (subst (λ i. Apart i (flat_map (family_changes W l) fs)) (sym p.0) (apart_next W l f.parent.place.0 fs a.1 d.0))

@@ -1,5 +1,5 @@
 -- Leases that come home, and ids that are taken for parts.
-use Rattle.std.proofs.Common.{◌≡◌, ◌≢◌, ◌+◌, ◌≤◌, ℕ, zero, suc, Bool, true, false, cond, List, [], ◌∷◌, ◌++◌, length, map, refl, sym, ap, ◌∙◌, arith, subst, append_assoc, length-append, Option, Some, None, eq-eqb, eqb-true}
+use Rattle.std.proofs.Common.{◌≡◌, ◌≢◌, ℕ, suc, Bool, true, false, List, [], ◌∷◌, ◌++◌, length, map, refl, sym, ap, ◌∙◌, arith, subst, append_assoc, length-append, Option, Some, eq-eqb, eqb-true}
 use Rattle.std.proofs.lemmas.List.{append-nil}
 use mathlib.Core.Logic.{dite}
 use mathlib.Core.List.{map-append}
@@ -11,15 +11,15 @@ use Rattle.palm_node.specs.declared.node.Node.{Node}
 use Rattle.palm_node.specs.declared.node.Node.TheVariants.{Inner}
 use Rattle.palm_arena.specs.declared.place.Place.{Place}
 use Rattle.palm_arena.specs.declared.place.Place.TheVariants.{Empty, Lent, Holds}
-use Rattle.palm_arena.specs.ArenaState.{ArenaState, place_at, node_in, node_at, with_place, IsLent, IsVacant, NoneLent}
+use Rattle.palm_arena.specs.ArenaState.{ArenaState, place_at, node_in, node_at, with_place, IsLent, IsVacant}
 use Rattle.palm_arena.specs.Reads.{map_of, same_place}
 use Rattle.palm_arena.specs.Cells.{Cell, Owns, Turns}
-use Rattle.palm_arena.proofs.CellLists.{owned_same, same_pass, same_append, same_swap}
+use Rattle.palm_arena.proofs.CellLists.{owned_same, same_pass}
 use Rattle.palm_arena.proofs.Standing.{put_stands, others_stay}
 use Rattle.palm_arena.proofs.Keeping.{same_id}
-use Rattle.palm_arena.proofs.Turning.{put_turns, lend_turns, drop_turns, vacant_none, lent_none}
+use Rattle.palm_arena.proofs.Turning.{put_turns, drop_turns, vacant_none, lent_none}
 use Rattle.palm_level.specs.Groups.{cells_at, named_pieces}
-use Rattle.palm_level.specs.Tasks.{lent_at, times_if, times_worked, SameLent, ComesHome, Took, as_node}
+use Rattle.palm_level.specs.Tasks.{lent_at, times_if, SameLent, ComesHome, Took, as_node}
 use Rattle.palm_level.specs.declared.node_work.Part.{Part}
 use Rattle.palm_level.specs.declared.node_work.LevelWork.{LevelWork}
 

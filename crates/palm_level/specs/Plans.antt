@@ -1,5 +1,5 @@
 -- What is planned of a node whose children changed, before it is lent.
-use Rattle.std.specs.Prelude.{◌≡◌, ◌+◌, ◌<◌, ◌≤◌, ℕ, true, false, List, [], ◌∷◌, length, sum_by, Option, None, Some, MatchOption}
+use Rattle.std.specs.Prelude.{◌≡◌, ◌+◌, ◌<◌, ◌≤◌, ℕ, true, false, List, [], length, sum_by, Option, None, Some}
 use Rattle.std.specs.Vec.{vec_capacity}
 use Rattle.palm_base.specs.Cut.{piece_count}
 use Rattle.palm_base.specs.declared.bounds.TheConstants.{MOST_CHILDREN}

@@ -1,5 +1,5 @@
 -- Changes of one parent after another.
-use Rattle.std.specs.Prelude.{◌≡◌, if◌then◌else◌, List, [], ◌∷◌}
+use Rattle.std.specs.Prelude.{if◌then◌else◌, List, [], ◌∷◌}
 use Rattle.palm_node.specs.declared.id.NodeId.{NodeId}
 use Rattle.palm_node.specs.declared.change.Change.{Change}
 use Rattle.palm_arena.specs.Reads.{same_place}

@@ -1,5 +1,5 @@
 -- The work on the touched nodes of a level, while their nodes are lent, and what it comes to.
-use Rattle.std.specs.Prelude.{◌≡◌, ◌+◌, ◌-◌, ◌≤◌, ℕ, Bool, true, false, if◌then◌else◌, List, [], ◌∷◌, ◌++◌, length, map, drop, reverse, sum_by, ◌≢◌, Option, None, Some, IsSome}
+use Rattle.std.specs.Prelude.{◌≡◌, ◌+◌, ◌-◌, ℕ, Bool, true, false, if◌then◌else◌, List, [], ◌∷◌, ◌++◌, length, map, drop, reverse, sum_by, ◌≢◌, Option, None, Some, IsSome}
 use Rattle.std.specs.List.{flat_map, AllByRecursion}
 use Rattle.palm_node.specs.InnerNode.{InnerNode}
 use Rattle.palm_node.specs.declared.id.NodeId.{NodeId}
@@ -15,9 +15,9 @@ use Rattle.palm_arena.specs.ArenaState.{ArenaState, IsLent, place_at, node_at, w
 use Rattle.palm_arena.specs.Reads.{map_of, inner_in, same_place}
 use Rattle.palm_arena.specs.Cells.{Cell, Turns}
 use Rattle.palm_level.specs.Splices.{children_left}
-use Rattle.palm_level.specs.Works.{CanSplice, IsReady, HasRun, first_node, parts_left, part_over}
-use Rattle.palm_level.specs.Groups.{Touched, Group, cells_at, named_pieces, touched_of, is_still, group_nodes, cells_before, cells_after, group_change, group_removed}
-use Rattle.palm_level.specs.Plans.{CanWork, IsPlanned, touched_by, planned_key}
+use Rattle.palm_level.specs.Works.{IsReady, HasRun, first_node, parts_left, part_over}
+use Rattle.palm_level.specs.Groups.{Touched, Group, cells_at, named_pieces, is_still, group_nodes, cells_before, cells_after, group_change, group_removed}
+use Rattle.palm_level.specs.Plans.{CanWork, touched_by, planned_key}
 use Rattle.palm_level.specs.declared.node_work.Part.{Part}
 use Rattle.palm_level.specs.declared.node_work.LevelWork.{LevelWork}
 use Rattle.palm_level.specs.declared.plan.Planned.{Planned}
@@ -88,9 +88,9 @@ WorkIsDone nodes id changes None = is_still changes ≡ true
 WorkIsDone nodes id changes (Some work) =
     (is_still changes ≡ false) × (work.lease.id ≡ id)
     × ((node : InnerNode) → nodes id ≡ Some (Inner node)
-        → (work.lease.node ≡ Inner (first_node node (parts_left node changes)))
-        × (work.children.items ≡ children_left node changes)
-        × (work.later.items ≡ map part_over (drop 1 (parts_left node changes))))
+    → (work.lease.node ≡ Inner (first_node node (parts_left node changes)))
+    × (work.children.items ≡ children_left node changes)
+    × (work.later.items ≡ map part_over (drop 1 (parts_left node changes))))
 
 abbrev pub TaskIsDone : (NodeId → Option Node) → Option Task → Type 0
 TaskIsDone nodes None = ⊥

@@ -1,5 +1,5 @@
 -- When a node's work may run, and what it leaves.
-use Rattle.std.specs.Prelude.{◌≡◌, ◌-◌, ◌+◌, ◌≤◌, ◌<◌, ℕ, List, [], ◌∷◌, length, map, drop}
+use Rattle.std.specs.Prelude.{◌≡◌, ◌+◌, ◌≤◌, ◌<◌, ℕ, List, [], ◌∷◌, length, map, drop}
 use Rattle.std.specs.Vec.{vec_capacity}
 use Rattle.std.specs.List.{AllByRecursion}
 use Rattle.palm_base.specs.Cut.{piece_count, cut}
@@ -7,7 +7,6 @@ use Rattle.palm_base.specs.Pass.{first_low}
 use Rattle.palm_base.specs.declared.bounds.TheConstants.{MOST_CHILDREN}
 use Rattle.palm_node.specs.InnerNode.{InnerNode}
 use Rattle.palm_node.specs.declared.id.Piece.{Piece}
-use Rattle.palm_node.specs.declared.node.Node.{Node}
 use Rattle.palm_node.specs.declared.node.Node.TheVariants.{Inner}
 use Rattle.palm_level.specs.Splices.{inner_over, later_lows, children_left, PlacesRise}
 use Rattle.palm_node.specs.declared.change.Change.{Change}

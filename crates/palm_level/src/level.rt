@@ -112,7 +112,14 @@ pub fn change_level<R: Threads + Sync, G: Gate + Sync, L: Ledger>(
     let worked = work_all(
         rt, alloc, arena, level, planned, &mut tasks, &mut made, workers, gate, steps,
     );
-    give_all(arena, tasks);
-    worked?;
-    Ok(made)
+    match worked {
+        Ok(()) => {
+            tasks.destroy_empty();
+            Ok(made)
+        }
+        Err(refused) => {
+            give_all(arena, tasks);
+            Err(refused)
+        }
+    }
 }

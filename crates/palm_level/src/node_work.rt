@@ -138,12 +138,7 @@ fn cut_later(children: &[Piece], later: &mut Vec<Part>)
 
 // Makes a node anew over what stands for its children: itself over the first part, and a node over each later one.
 // Where no child is left it stays as it was.
-fn rework(
-    inner: &mut Inner,
-    changes: &[Change],
-    children: &mut Vec<Piece>,
-    later: &mut Vec<Part>,
-)
+fn rework(inner: &mut Inner, changes: &[Change], children: &mut Vec<Piece>, later: &mut Vec<Part>)
     requires can { CanSplice inner.old changes.now }
     requires no_children { children.old.items ≡ [] }
     requires no_later { later.old.items ≡ [] }

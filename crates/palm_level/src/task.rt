@@ -188,7 +188,10 @@ fn finish<L: Ledger>(
 {
     let Task { parent, work } = task;
     let Parent {
-        node, path, low, ..
+        node,
+        path,
+        low,
+        ..
     } = parent;
     let removed = &mut changes.removed;
     let pieces = stand_for(alloc, arena, low, node, level, work, removed, steps)?;
@@ -244,9 +247,7 @@ pub fn finish_all<L: Ledger>(
     ensures moved { length arena.new.moved + steps.old ≤ length arena.old.moved + steps.new }
 {
     while let Some(item) = tasks.pop() {
-        let Some(task) = item else {
-            unreachable!()
-        };
+        let Some(task) = item else { unreachable!() };
         finish(alloc, arena, level, task, changes, steps)?;
     }
     Ok(())

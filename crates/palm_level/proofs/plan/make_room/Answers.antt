@@ -1,4 +1,4 @@
-use Rattle.std.proofs.Common.{arith, ap, ◌∙◌, sym, subst, ◌≡◌, take, rules}
+use Rattle.std.proofs.Common.{arith}
 use Rattle.palm_level.proofs.RunFronts.{room_fits}
 use Rattle.palm_level.proofs.plan.make_room.Goals as goal
 

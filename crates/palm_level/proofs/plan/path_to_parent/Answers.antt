@@ -1,4 +1,4 @@
-use Rattle.std.proofs.Common.{arith, ap, ◌∙◌, sym, subst, ◌≡◌, take, rules}
+use Rattle.std.proofs.Common.{arith, ◌∙◌}
 use Rattle.palm_level.proofs.RunFronts.{step_more}
 use Rattle.palm_level.proofs.plan.path_to_parent.Goals as goal
 

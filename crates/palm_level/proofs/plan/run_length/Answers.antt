@@ -1,4 +1,4 @@
-use Rattle.std.proofs.Common.{arith, ap, ◌∙◌, sym, subst, ◌≡◌, ◌≢◌, ◌≤◌, length, take, drop, rules, ℕ}
+use Rattle.std.proofs.Common.{arith, ap, ◌∙◌, sym, subst, ◌≡◌, length, take, ℕ}
 use Rattle.std.specs.List.{AllByRecursion}
 use Rattle.palm_node.specs.declared.id.NodeId.{NodeId}
 use Rattle.palm_level.specs.Runs.{parent_of}

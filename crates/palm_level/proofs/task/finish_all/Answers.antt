@@ -1,9 +1,9 @@
-use Rattle.std.proofs.Common.{arith, ap, ◌∙◌, sym, subst, ◌≡◌, ◌++◌, ◌∷◌, [], rules, refl, List, Option, Some}
+use Rattle.std.proofs.Common.{arith, ap, ◌∙◌, subst, ◌++◌, ◌∷◌, [], Option, Some}
 use Rattle.std.specs.List.{AllByRecursion}
 use Rattle.palm_arena.proofs.ListParts.{all_front}
-use Rattle.palm_level.specs.Tasks.{TaskComesHome, TaskIsLent, IsTask, LentTo}
+use Rattle.palm_level.specs.Tasks.{IsTask}
 use Rattle.palm_level.specs.declared.task.Task.{Task}
-use Rattle.palm_level.proofs.Finishing.{none_finished, one_finished, all_finished, lent_popped, task_lent, later_popped}
+use Rattle.palm_level.proofs.Finishing.{one_finished, lent_popped, task_lent, later_popped}
 use Rattle.palm_level.proofs.task.finish_all.Goals as goal
 
 pub finish-requires-clause-lent : goal.finish-requires-clause-lent

@@ -1,7 +1,6 @@
-use Rattle.std.proofs.Common.{arith, ap, ◌∙◌, sym, subst, ◌≡◌, ◌+◌, refl}
-use Rattle.palm_node.specs.declared.id.NodeId.{NodeId}
-use Rattle.palm_arena.specs.ArenaState.{ArenaState, place_at}
-use Rattle.palm_level.specs.Tasks.{TaskIsLent, WorkIsLent, ComesHome, times_in, times_worked, lent_at}
+use Rattle.std.proofs.Common.{ap, ◌∙◌, subst, ◌+◌, refl}
+use Rattle.palm_arena.specs.ArenaState.{place_at}
+use Rattle.palm_level.specs.Tasks.{TaskIsLent, WorkIsLent, times_in, times_worked, lent_at}
 use Rattle.palm_level.proofs.Taking.{home_given, stays_same}
 use Rattle.palm_level.proofs.task.give.Goals as goal
 

@@ -1,6 +1,5 @@
-use Rattle.std.proofs.Common.{arith, ap, ◌∙◌, sym, subst, ◌≡◌, ◌+◌, ◌++◌, ◌∷◌, [], length, length-append, refl, List, Option, Some}
-use Rattle.palm_level.specs.declared.task.Task.{Task}
-use Rattle.palm_level.proofs.Lending.{LentSoFar, lent_none_yet, last_of, there, one_lent, all_lent, starts_begun}
+use Rattle.std.proofs.Common.{arith, ap, ◌∙◌, sym, subst, ◌∷◌, [], length, length-append, refl}
+use Rattle.palm_level.proofs.Lending.{LentSoFar, lent_none_yet, last_of, there, one_lent, starts_begun}
 use Rattle.palm_level.proofs.task.lend_all.Goals as goal
 
 pub loop-next-init : goal.loop-next-init

@@ -1,14 +1,12 @@
-use Rattle.std.proofs.Common.{arith, ap, ◌∙◌, sym, subst, ◌≡◌, ◌≤◌, ◌+◌, ◌++◌, List, [], ◌∷◌, length, rules, refl, eqb-true, true, false}
+use Rattle.std.proofs.Common.{arith, ap, ◌∙◌, sym, subst, ◌≡◌, ◌++◌, List, [], ◌∷◌, refl, eqb-true, true, false}
 use Rattle.std.specs.Prelude.{IsSome}
 use Rattle.std.specs.Vec.{vec_len}
 use Rattle.palm_base.specs.Pass.{is_small}
 use Rattle.palm_base.specs.declared.bounds.TheConstants.{LEAST_CHILDREN}
 use Rattle.palm_node.specs.declared.id.NodeId.{NodeId}
 use Rattle.palm_node.specs.declared.id.Piece.{Piece}
-use Rattle.palm_node.specs.declared.change.Removed.{Removed}
-use Rattle.palm_arena.specs.ArenaState.{ArenaState, node_at, with_place}
+use Rattle.palm_arena.specs.ArenaState.{node_at, with_place}
 use Rattle.palm_arena.specs.declared.place.Place.TheVariants.{Empty}
-use Rattle.palm_level.specs.Tasks.{SameLent, Took}
 use Rattle.palm_level.proofs.LaterParts.{some_item}
 use Rattle.palm_level.proofs.Taking.{home_given, stays_same, drop_same, given_held}
 use Rattle.palm_level.proofs.PuttingBack.{back_none, back_few, back_many}

@@ -1,7 +1,6 @@
-use Rattle.std.proofs.Common.{arith, ap, ◌∙◌, sym, subst, ◌≡◌, ◌≤◌, ◌+◌, length, rules, length-append, [], ◌∷◌}
+use Rattle.std.proofs.Common.{arith, ap, length, rules, length-append, [], ◌∷◌}
 use Rattle.palm_node.specs.declared.node.Node.TheVariants.{Inner}
 use Rattle.palm_arena.specs.ArenaState.{ArenaState}
-use Rattle.palm_level.specs.Tasks.{SameLent}
 use Rattle.palm_level.proofs.Taking.{took_more, take_same}
 use Rattle.palm_level.proofs.task.take_later.Goals as goal
 
