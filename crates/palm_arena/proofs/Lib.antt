@@ -14,3 +14,5 @@ pub mod SitePasses
 pub mod Turning
 pub mod LevelCells
 pub mod NamedNodes
+pub mod PlacedTrees
+pub mod OwnedTrees

@@ -8,7 +8,7 @@ use Rattle.palm_base.specs.Pass.{with_lows, node_over, nodes_over, first_low, is
 use Rattle.palm_base.specs.Lawful.{next_low}
 use Rattle.palm_base.specs.declared.bounds.TheConstants.{LEAST_CHILDREN, MOST_CHILDREN}
 use Rattle.palm_base.specs.declared.call.Call.{Call}
-use Rattle.palm_node.specs.InnerNode.{InnerNode}
+use Rattle.palm_node.specs.InnerNode.{InnerNode, inner_over}
 use Rattle.palm_node.specs.declared.id.NodeId.{NodeId}
 use Rattle.palm_node.specs.declared.id.Piece.{Piece}
 use Rattle.palm_node.specs.declared.change.Change.{Change}
@@ -17,8 +17,8 @@ use Rattle.palm_arena.specs.Sites.{Site, sites_of_children}
 use Rattle.palm_arena.specs.Standing.{Result, is_hit, StandsForItself, change_of}
 use Rattle.palm_arena.proofs.Natural.{length-map', cut-map, inside, small-map}
 use Rattle.palm_arena.proofs.LevelCells.{sites_children}
-use Rattle.palm_level.specs.Families.{Family, left_of, pieces_under, placed_left, IsFull, IsFamily}
-use Rattle.palm_level.specs.Splices.{last_step, path_above, child_place, pieces_at, children_of, spliced, PlacesRise, inner_over}
+use Rattle.palm_level.specs.Families.{Family, left_of, pieces_under, placed_left, IsFamily}
+use Rattle.palm_level.specs.Splices.{last_step, path_above, child_place, pieces_at, children_of, spliced, PlacesRise}
 use Rattle.palm_level.specs.Groups.{nodes_left}
 use Rattle.palm_level.proofs.Splicing.{drop-add}
 
@@ -155,10 +155,10 @@ abbrev pub inner_of : {B : Type 0} → List (ℕ × (NodeId × B)) → InnerNode
 inner_of children = record { children = ids_of_children children; separators = lows_between children }
 
 -- So what is left by ids, of a family, is the pieces under its parent.
-pub family_left : (W : NodeId → Bool) (l : ℕ) (f : Family l) → IsFamily l f → IsFull l f.parent → AllByRecursion (StandsForItself W l) f.children
+pub family_left : (W : NodeId → Bool) (l : ℕ) (f : Family l) → IsFamily l f → next_low (λ child. child.0) 0 f.parent.place.1 ≡ 0 → AllByRecursion (StandsForItself W l) f.children
     → spliced 0 (children_of (inner_of f.parent.place.1)) (changes_in W l f.children) ≡ bare (placed_left l f)
-family_left W l f e full a =
-    ap (λ ks. spliced 0 ks (changes_in W l f.children)) (stored_children f.parent.place.1 full.1 ∙ sym (family_own l f e))
+family_left W l f e first a =
+    ap (λ ks. spliced 0 ks (changes_in W l f.children)) (stored_children f.parent.place.1 first ∙ sym (family_own l f e))
     ∙ spliced_children W l f.parent.path f.parent.place.0 0 0 (map own f.children) f.children (omega arith) refl (family_steps l f e) a
     ∙ flat_bare l f.children
 

@@ -8,7 +8,7 @@ use Rattle.palm_base.specs.Cut.{cut, piece_count}
 use Rattle.palm_base.specs.Pass.{with_lows, is_small}
 use Rattle.palm_base.specs.declared.bounds.TheConstants.{LEAST_CHILDREN, MOST_CHILDREN}
 use Rattle.palm_base.proofs.Cuts.{pieces_are_counted}
-use Rattle.palm_node.specs.InnerNode.{InnerNode}
+use Rattle.palm_node.specs.InnerNode.{InnerNode, inner_over}
 use Rattle.palm_node.specs.declared.id.NodeId.{NodeId}
 use Rattle.palm_node.specs.declared.id.Piece.{Piece}
 use Rattle.palm_node.specs.declared.node.Node.{Node}
@@ -21,7 +21,7 @@ use Rattle.palm_arena.proofs.Natural.{length-map'}
 use Rattle.palm_level.specs.Families.{Family, placed_left, is_worked, past_first}
 use Rattle.palm_base.proofs.SoundNodes.{length_with_lows}
 use Rattle.palm_arena.specs.Passes.{IsWithin}
-use Rattle.palm_level.specs.Splices.{children_left, inner_over}
+use Rattle.palm_level.specs.Splices.{children_left}
 use Rattle.palm_level.specs.Works.{parts_left}
 use Rattle.palm_level.specs.Runs.{runs}
 use Rattle.palm_level.specs.Groups.{Touched, Group, touched_of, is_still, group_left, nodes_left, group_nodes, group_change, named_pieces}
@@ -64,7 +64,7 @@ spare_few W l nodes f k worked =
     let node = inner_of f.parent.place.1 in
     let is = family_touched W l nodes f k worked in
     let full = known_full W l nodes f k in
-    let left = family_left W l f k.family full k.still in
+    let left = family_left W l f k.family full.1 k.still in
     let few = parts_few (children_left node (family_changes W l f)) in
     let many = ap length left ∙ length-map' {B = Piece} (λ (child : ℕ × Placed l). record { low = child.0; id = child.1.0 }) (placed_left l f) in
     let more = under_more W l f.children k.still in

@@ -16,15 +16,16 @@ use Rattle.palm_node.specs.declared.node.Node.{Node}
 use Rattle.palm_node.specs.declared.node.Node.TheVariants.{Inner}
 use Rattle.palm_node.specs.declared.change.Changes.{Changes}
 use Rattle.palm_arena.specs.Cells.{Cell, found_at, Owns, SameCells}
-use Rattle.palm_arena.specs.Placed.{Body, Placed, value_in, values, cells_of, cells_under, ids_of_children, lows_between}
+use Rattle.palm_arena.specs.Placed.{Body, Placed, value_in, values, cells_of, cells_under, ids_of_children, lows_between, with_ids, own_cells}
 use Rattle.palm_arena.specs.Sites.{Site, raised, sites_at, cell_of_site, cells_above}
 use Rattle.palm_arena.specs.Standing.{is_touched, Result, is_hit, StandsForItself, IsRight, loose_of, change_of, Kept, kept_cells, kept_rows, removed_of, Stands}
 use Rattle.palm_arena.proofs.SitePasses.{site_pass, outcome_below}
 use Rattle.palm_arena.proofs.LevelCells.{sites_children}
 use Rattle.palm_arena.proofs.CellLists.{owned_same, same_trans, same_sym, same_eq, same_front, same_back}
 use Rattle.palm_arena.proofs.ListParts.{same_parted, same_each, perm_more, flat_each, flat_flat, map_map, flat_map', all_map, all_each, all_flat}
-use Rattle.palm_level.proofs.Parent.{parent_right, parent_loose, parts_cells}
-use Rattle.palm_level.specs.Families.{Family, IsPassed, with_ids, left_of, part_heads, pieces_under, gone_of, placed_left, bodies_left, is_worked, pieces_after, kept_after, result_after, nodes_before, nodes_after, IsFull, IsFamily, HasIds, Worked}
+use Rattle.palm_level.proofs.Parent.{parent_right, parent_loose}
+use Rattle.palm_arena.proofs.NamedNodes.{nodes_cells}
+use Rattle.palm_level.specs.Families.{Family, IsPassed, left_of, pieces_under, gone_of, placed_left, bodies_left, is_worked, pieces_after, kept_after, result_after, nodes_before, nodes_after, IsFull, IsFamily, HasIds, Worked}
 
 -- Where no child is touched, what stands for the children is the children.
 still_pieces : (W : NodeId → Bool) (l : ℕ) (rs : List (Result l)) → AllByRecursion (StandsForItself W l) rs → list_any (λ (child : ℕ × Placed l). is_touched W l child.1) (map {B = ℕ × Placed l} (λ s. (s.low, s.place)) (map (λ r. r.site) rs)) ≡ false
@@ -135,14 +136,14 @@ parts_after W l f k = by (is_worked W l f) (is_small LEAST_CHILDREN (placed_left
     gone s = let h = (f.parent.place.0, Inner (record { children = ids_of_children children; separators = lows_between children })) ∷ [] in cond s h []
 
     by : (b s : Bool) → is_worked W l f ≡ b → is_small LEAST_CHILDREN children ≡ s
-        → SameCells (cond b (part_heads l f.ids (cond s [] (nodes_over f.parent.low children)) ++ cond s ((f.parent.place.0, Inner (record { children = ids_of_children children; separators = lows_between children })) ∷ []) []) [] ++ cond b (cells_under l children) (cell_of_site (suc l) f.parent ∷ cells_under l children))
+        → SameCells (cond b (own_cells l f.ids (cond s [] (nodes_over f.parent.low children)) ++ cond s ((f.parent.place.0, Inner (record { children = ids_of_children children; separators = lows_between children })) ∷ []) []) [] ++ cond b (cells_under l children) (cell_of_site (suc l) f.parent ∷ cells_under l children))
         (cells_under (suc l) (cond b (with_ids f.ids (cond s [] (nodes_over f.parent.low children))) ((f.parent.low, f.parent.place) ∷ [])) ++ flat_map kept_cells (cond (b && s) held []))
     by true true e q i =
         ap (λ hs. found_at i ((hs ++ (f.parent.place.0, Inner (record { children = ids_of_children children; separators = lows_between children })) ∷ []) ++ cells_under l children)) (none_heads l f.ids)
         ∙ ap (found_at i) (ap (λ cs. (f.parent.place.0, Inner (record { children = ids_of_children children; separators = lows_between children })) ∷ cs) (sym (over_cells l children)) ∙ ap (λ is. (f.parent.place.0, Inner (record { children = is; separators = lows_between children })) ∷ cells_under l (node_over children)) (sym (over_ids children)) ∙ ap (λ ss. (f.parent.place.0, Inner (record { children = ids_of_children (node_over children); separators = ss })) ∷ cells_under l (node_over children)) (sym (over_seps children)) ∙ sym (append-nil ((f.parent.place.0, Inner (record { children = ids_of_children (node_over children); separators = lows_between (node_over children) })) ∷ cells_under l (node_over children))))
         ∙ ap (λ ps. found_at i (cells_under (suc l) ps ++ flat_map kept_cells held)) (sym (none_ids {B = Body (suc l)} f.ids))
       where
-        none_heads : (l : ℕ) (ids : List NodeId) → part_heads l ids [] ≡ []
+        none_heads : (l : ℕ) (ids : List NodeId) → own_cells l ids [] ≡ []
         none_heads l [] = refl
         none_heads l (id ∷ ids) = refl
 
@@ -151,8 +152,8 @@ parts_after W l f k = by (is_worked W l f) (is_small LEAST_CHILDREN (placed_left
         none_ids (id ∷ ids) = refl
     by true false e q i =
         let n : length f.ids ≡ length (nodes_over f.parent.low children) = k.ids e ∙ ap (λ s. length (cond s [] (nodes_over f.parent.low children))) q in
-        rw (append-nil (part_heads l f.ids (nodes_over f.parent.low children)), append-nil (cells_under (suc l) (with_ids f.ids (nodes_over f.parent.low children))))
-        (sym (parts_cells l f.parent.low f.ids children n i))
+        rw (append-nil (own_cells l f.ids (nodes_over f.parent.low children)), append-nil (cells_under (suc l) (with_ids f.ids (nodes_over f.parent.low children))))
+        (sym (nodes_cells l f.parent.low f.ids children n i))
     by false s e q i =
         let own = untouched_kids W l f k.still k.family e in
         ap (λ ks. found_at i (cell_of_site (suc l) f.parent ∷ cells_under l ks)) own ∙ ap (found_at i) (sym (append-nil (cells_of (suc l) f.parent.place)) ∙ sym (append-nil (cells_of (suc l) f.parent.place ++ [])))

@@ -6,13 +6,12 @@ use Rattle.palm_base.proofs.Cuts.{cut_none}
 use Rattle.palm_base.specs.Lawful.{HasFromTo}
 use Rattle.palm_base.specs.Pass.{first_low}
 use Rattle.palm_base.specs.declared.bounds.TheConstants.{MOST_CHILDREN, LEAST_CHILDREN}
-use Rattle.palm_node.specs.InnerNode.{InnerNode}
+use Rattle.palm_node.specs.InnerNode.{InnerNode, Rise, inner_over, later_lows}
 use Rattle.palm_node.specs.declared.id.Piece.{Piece}
-use Rattle.palm_level.specs.Splices.{later_lows, inner_over}
-use Rattle.palm_level.specs.Works.{Rise, part_over, first_node}
+use Rattle.palm_level.specs.Works.{part_over, first_node}
 use Rattle.palm_level.specs.declared.node_work.Part.{Part}
-use Rattle.palm_level.proofs.CutSteps.{pieces_left, IsCutTo, left_first, left_next, left_last, cut_first, cut_next, next_fits}
-use Rattle.palm_level.proofs.Rising.{later_take, later_drop}
+use Rattle.palm_base.proofs.CutSteps.{pieces_left, IsCutTo, left_first, left_next, left_last, cut_first, cut_next, next_fits}
+use Rattle.palm_node.proofs.RisingLows.{later_take, later_drop}
 
 -- The parts before the i-th are made, and the rest of the children is left.
 pub record PartsSoFar (children : List Piece) (i : ℕ) (rest : List Piece) (later : List Part) : Type 0 where

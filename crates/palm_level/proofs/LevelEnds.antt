@@ -9,7 +9,7 @@ use Rattle.palm_base.specs.Lawful.{next_low}
 use Rattle.palm_base.specs.declared.bounds.TheConstants.{LEAST_CHILDREN, MOST_CHILDREN}
 use Rattle.palm_base.specs.declared.call.Call.{Call}
 use Rattle.palm_base.proofs.CutParts.{large}
-use Rattle.palm_node.specs.InnerNode.{InnerNode}
+use Rattle.palm_node.specs.InnerNode.{InnerNode, inner_over}
 use Rattle.palm_node.specs.declared.id.NodeId.{NodeId}
 use Rattle.palm_node.specs.declared.id.Piece.{Piece}
 use Rattle.palm_node.specs.declared.node.Node.{Node}
@@ -31,7 +31,6 @@ use Rattle.palm_base.specs.Table.{row_key, after_all}
 use Rattle.palm_base.specs.declared.bounds.TheConstants.{LEAST_LEAF_ROWS, MOST_LEAF_ROWS}
 use Rattle.palm_arena.proofs.Keeping.{same_id}
 use Rattle.palm_arena.proofs.Turning.{turns_before, turns_same}
-use Rattle.palm_level.specs.Splices.{inner_over}
 use Rattle.palm_level.specs.Runs.{runs}
 use Rattle.palm_level.specs.Groups.{Touched, Group, touched_of, is_alone, is_still, group_left, nodes_left, group_nodes, named_pieces, cells_at, cells_before, cells_after, removed_cell, group_change, group_removed}
 use Rattle.palm_level.specs.Tasks.{IsGroup, HasWorked, change_for, removed_for, lent_for, made_for, itself}
@@ -113,7 +112,7 @@ ready_of : (W : NodeId → Bool) (l : ℕ) (nodes : NodeId → Option Node) (f :
 ready_of W l nodes f k = record { family = k.family; full = known_full W l nodes f k; still = k.still }
 
 left_for : (W : NodeId → Bool) (l : ℕ) (nodes : NodeId → Option Node) (g : Group) (f : Family l) → Known W l nodes f → IsFor W l nodes g f → group_left g ≡ bare (placed_left l f)
-left_for W l nodes g f k is = rw (is.node, ap (λ (t : Touched). t.changes) is.touched) (family_left W l f k.family (known_full W l nodes f k) k.still)
+left_for W l nodes g f k is = rw (is.node, ap (λ (t : Touched). t.changes) is.touched) (family_left W l f k.family (known_full W l nodes f k).1 k.still)
 
 -- What is left of a node that stays: itself.
 stays_nodes : (W : NodeId → Bool) (l : ℕ) (nodes : NodeId → Option Node) (g : Group) (f : Family l) → Known W l nodes f → IsFor W l nodes g f → is_still g.touched.changes ≡ true

@@ -5,7 +5,7 @@ use Rattle.palm_base.specs.Tree.{Subtree}
 use Rattle.palm_base.specs.Pass.{goes_right}
 use Rattle.palm_base.specs.Lawful.{next_low, Root}
 use Rattle.palm_base.specs.declared.call.Call.{Call}
-use Rattle.palm_node.specs.InnerNode.{InnerNode}
+use Rattle.palm_node.specs.InnerNode.{InnerNode, Rise, later_lows}
 use Rattle.palm_node.specs.declared.id.NodeId.{NodeId}
 use Rattle.palm_node.specs.declared.node.Node.{Node}
 use Rattle.palm_node.specs.declared.node.Node.TheVariants.{Inner}
@@ -21,8 +21,7 @@ use Rattle.palm_arena.proofs.CellLists.{owned_same, owned_front, same_swap}
 use Rattle.palm_arena.proofs.ListParts.{map_map, map_all, all_each, all_flat, flat_all}
 use Rattle.palm_level.specs.Families.{Family, IsPassed, is_worked, IsFull, IsFamily}
 use Rattle.palm_base.proofs.Batches.{highest, adds_below, root_wider}
-use Rattle.palm_level.specs.Splices.{PlacesRise, last_step, path_above, later_lows}
-use Rattle.palm_level.specs.Works.{Rise}
+use Rattle.palm_level.specs.Splices.{PlacesRise, last_step, path_above}
 use Rattle.palm_level.specs.Runs.{runs, parent_of}
 use Rattle.palm_level.specs.Groups.{Touched, touched_of, low_in, low_at}
 use Rattle.palm_level.specs.Plans.{IsInnerAt, CanWork, Fits}
@@ -212,7 +211,7 @@ can_work W l nodes f k = record {
   can-splice = record {
     paths = all_each (λ (c : Change). (path_above c.path ≡ f.parent.path) × (0 < length c.path)) (λ (c : Change). 0 < length c.path) (λ c both. both.1) (family_changes W l f) (family_paths W l f k.family);
     places = subst (λ n. PlacesRise 0 n (family_changes W l f)) (sym (length-map' (λ (c : ℕ × Placed l). c.1.0) f.parent.place.1)) (family_places W l f k.family);
-    rising = subst (λ ps. Rise (later_lows ps)) (sym (family_left W l f k.family (known_full W l nodes f k) k.still)) (left_rises l f k.sound k.family k.passed);
+    rising = subst (λ ps. Rise (later_lows ps)) (sym (family_left W l f k.family (known_full W l nodes f k).1 k.still)) (left_rises l f k.sound k.family k.passed);
   };
 }
 

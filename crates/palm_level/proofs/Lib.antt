@@ -1,6 +1,5 @@
-mod Bare
-mod Bounds
-mod CutSteps
+pub mod Bare
+pub mod Bounds
 mod Ending
 mod Families
 mod Finishing
@@ -9,13 +8,12 @@ mod Lending
 mod LevelEnds
 mod LevelFacts
 mod LevelFits
-mod Parent
+pub mod Parent
 mod PuttingBack
-mod Rising
 mod RunFronts
 mod Running
-mod SoundSites
+pub mod SoundSites
 mod Splicing
 mod Split
 mod Taking
-mod Within
+pub mod Within

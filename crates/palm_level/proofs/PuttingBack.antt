@@ -6,7 +6,7 @@ use Rattle.palm_base.specs.Cut.{cut}
 use Rattle.palm_base.specs.Pass.{first_low, with_lows, is_small}
 use Rattle.palm_base.specs.declared.bounds.TheConstants.{LEAST_CHILDREN, MOST_CHILDREN}
 use Rattle.palm_base.proofs.Cuts.{cut_none, few_are_one_piece, pieces_join}
-use Rattle.palm_node.specs.InnerNode.{InnerNode}
+use Rattle.palm_node.specs.InnerNode.{InnerNode, inner_over}
 use Rattle.palm_node.specs.declared.id.NodeId.{NodeId}
 use Rattle.palm_node.specs.declared.id.Piece.{Piece}
 use Rattle.palm_node.specs.declared.node.Node.TheVariants.{Inner}
@@ -17,7 +17,7 @@ use Rattle.palm_arena.specs.declared.place.Place.TheVariants.{Empty, Holds}
 use Rattle.palm_arena.specs.Reads.{map_of}
 use Rattle.palm_arena.specs.Cells.{Turns}
 use Rattle.palm_arena.proofs.Turning.{turns_then}
-use Rattle.palm_level.specs.Splices.{children_left, inner_over}
+use Rattle.palm_level.specs.Splices.{children_left}
 use Rattle.palm_level.specs.Works.{first_node, part_over}
 use Rattle.palm_level.specs.Groups.{Group, nodes_left, cells_at, named_pieces, cells_after}
 use Rattle.palm_level.specs.Tasks.{MadeOf, PutsBack, Took, as_node}

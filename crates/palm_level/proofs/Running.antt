@@ -4,18 +4,17 @@ use Rattle.std.specs.List.{flat_map, AllByRecursion, filter}
 use mathlib.Core.List.{map-append}
 use Rattle.palm_base.specs.Pass.{node_over, is_small}
 use Rattle.palm_base.specs.declared.bounds.TheConstants.{LEAST_CHILDREN}
-use Rattle.palm_node.specs.InnerNode.{InnerNode}
+use Rattle.palm_node.specs.InnerNode.{InnerNode, inner_over}
 use Rattle.palm_node.specs.declared.id.NodeId.{NodeId}
 use Rattle.palm_node.specs.declared.id.Piece.{Piece}
 use Rattle.palm_node.specs.declared.node.Node.{Node}
 use Rattle.palm_node.specs.declared.change.Changes.{Changes}
 use Rattle.palm_arena.specs.Cells.{Cell, Turns}
-use Rattle.palm_arena.specs.Placed.{Body, Placed, node_of, bare}
+use Rattle.palm_arena.specs.Placed.{Body, Placed, node_of, bare, with_ids, own_cells}
 use Rattle.palm_arena.specs.Sites.{Site, raised, sites_at}
 use Rattle.palm_arena.specs.Standing.{is_hit, StandsForItself, change_of, removed_of, Stands}
 use Rattle.palm_arena.proofs.Natural.{length-map', inside, small-map}
-use Rattle.palm_level.specs.Families.{Family, with_ids, part_heads, placed_left, bodies_left, is_worked, kept_after, result_after, nodes_before, nodes_after, removed_node, IsFull, IsFamily, HasIds, Worked}
-use Rattle.palm_level.specs.Splices.{inner_over}
+use Rattle.palm_level.specs.Families.{Family, placed_left, bodies_left, is_worked, kept_after, result_after, nodes_before, nodes_after, removed_node, IsFull, IsFamily, HasIds, Worked}
 use Rattle.palm_level.specs.Groups.{Group, group_left, nodes_left, group_nodes, cells_at, named_pieces, cells_before, removed_cell, cells_after, group_change, group_removed}
 use Rattle.palm_level.proofs.Bare.{changes_in, inner_of, family_left, left_bare, inner_bare}
 use Rattle.palm_level.proofs.Families.{level_stands}
@@ -35,13 +34,13 @@ pub record Ready (W : NodeId → Bool) (l : ℕ) (f : Family l) : Type 0 where
   pub still : AllByRecursion (StandsForItself W l) f.children
 
 pub left_is : (W : NodeId → Bool) (l : ℕ) (g : Group) (f : Family l) → IsOf W l g f → Ready W l f → group_left g ≡ bare (placed_left l f)
-left_is W l g f o r = rw (o.node, o.changes) (family_left W l f r.family r.full r.still)
+left_is W l g f o r = rw (o.node, o.changes) (family_left W l f r.family r.full.1 r.still)
 
 nodes_are : (W : NodeId → Bool) (l : ℕ) (g : Group) (f : Family l) → IsOf W l g f → Ready W l f → group_nodes g ≡ map {B = ℕ × InnerNode} (inside inner_of) (bodies_left l f)
 nodes_are W l g f o r =
     ap (λ n. nodes_left n (group_left g)) o.low ∙ ap (nodes_left f.parent.low) (left_is W l g f o r) ∙ sym (left_bare f.parent.low (placed_left l f))
 
-heads_are : (l : ℕ) (ids : List NodeId) (ps : List (ℕ × Body (suc l))) → cells_at ids (map {B = ℕ × InnerNode} (inside inner_of) ps) ≡ part_heads l ids ps
+heads_are : (l : ℕ) (ids : List NodeId) (ps : List (ℕ × Body (suc l))) → cells_at ids (map {B = ℕ × InnerNode} (inside inner_of) ps) ≡ own_cells l ids ps
 heads_are l [] ps = refl
 heads_are l (id ∷ ids) [] = refl
 heads_are l (id ∷ ids) (p ∷ ps) = ap (λ cs. (id, node_of (suc l) p.1) ∷ cs) (heads_are l ids ps)
@@ -70,7 +69,7 @@ one_removed W l g f o r =
 
 one_after : (W : NodeId → Bool) (l : ℕ) (g : Group) (f : Family l) → IsOf W l g f → Ready W l f → is_worked W l f ≡ true → nodes_after W l (given f g.ids) ≡ cells_after g
 one_after W l g f o r h =
-    ap (λ b. cond b (part_heads l g.ids (bodies_left l f) ++ removed_node l f) []) h
+    ap (λ b. cond b (own_cells l g.ids (bodies_left l f) ++ removed_node l f) []) h
     ∙ ap (λ cs. cs ++ removed_node l f) (sym (heads_are l g.ids (bodies_left l f)) ∙ ap (cells_at g.ids) (sym (nodes_are W l g f o r)))
     ∙ ap (λ cs. cells_at g.ids (group_nodes g) ++ cs) (one_removed W l g f o r)
 

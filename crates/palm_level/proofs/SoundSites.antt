@@ -14,9 +14,8 @@ use Rattle.palm_arena.specs.Placed.{Placed, value_in, values, bare}
 use Rattle.palm_arena.specs.Sites.{Site, sites_of_children, sites_below, raised, sites_at}
 use Rattle.palm_arena.proofs.Natural.{length-map'}
 use Rattle.palm_arena.proofs.ListParts.{flat_all, all_each}
+use Rattle.palm_node.specs.InnerNode.{Rise, later_lows}
 use Rattle.palm_level.specs.Families.{Family, IsFull, IsFamily, IsPassed, placed_left}
-use Rattle.palm_level.specs.Splices.{later_lows}
-use Rattle.palm_level.specs.Works.{Rise}
 use Rattle.palm_level.proofs.Parent.{below_results, joined_values}
 
 -- Between some bounds the node at a site is sound, and the edits that go to it put rows there.

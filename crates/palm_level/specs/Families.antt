@@ -10,7 +10,7 @@ use Rattle.palm_node.specs.declared.id.NodeId.{NodeId}
 use Rattle.palm_node.specs.declared.node.Node.{Node}
 use Rattle.palm_node.specs.declared.node.Node.TheVariants.{Inner}
 use Rattle.palm_arena.specs.Cells.{Cell, Turns}
-use Rattle.palm_arena.specs.Placed.{Body, Placed, values, node_of, ids_of_children, lows_between}
+use Rattle.palm_arena.specs.Placed.{Body, Placed, values, ids_of_children, lows_between, with_ids, own_cells}
 use Rattle.palm_arena.specs.Sites.{Site, raised, sites_at, sites_below, cell_of_site}
 use Rattle.palm_arena.specs.Standing.{Result, Kept, is_touched}
 use Rattle.palm_arena.proofs.SitePasses.{site_pass}
@@ -25,21 +25,9 @@ pub record Family (l : ℕ) : Type 0 where
 abbrev pub IsPassed : (l : ℕ) → Result l → Type 0
 IsPassed l result = values l result.pieces ≡ (site_pass l result.site).pieces
 
--- Nodes under ids, as many as there are of both.
-abbrev pub with_ids : {B : Type 0} → List NodeId → List (ℕ × B) → List (ℕ × (NodeId × B))
-with_ids [] parts = []
-with_ids (id ∷ ids) [] = []
-with_ids (id ∷ ids) (part ∷ parts) = (part.0, (id, part.1)) ∷ with_ids ids parts
-
 -- What is left of a node with these children: the nodes that they are cut into, and none where they are few.
 abbrev pub left_of : {T : Type 0} → ℕ → List (ℕ × T) → List (ℕ × List (ℕ × T))
 left_of low children = let nodes = nodes_over low children in if is_small LEAST_CHILDREN children then [] else nodes
-
--- The cells of nodes under ids, without what is under them.
-abbrev pub part_heads : (l : ℕ) → List NodeId → List (ℕ × Body (suc l)) → List Cell
-part_heads l [] parts = []
-part_heads l (id ∷ ids) [] = []
-part_heads l (id ∷ ids) (part ∷ parts) = (id, node_of (suc l) part.1) ∷ part_heads l ids parts
 
 abbrev pub pieces_under : (l : ℕ) → List (Result l) → List (ℕ × Placed l)
 pieces_under l results = flat_map (λ result. result.pieces) results
@@ -85,7 +73,7 @@ removed_node l family =
 
 abbrev pub nodes_after : (NodeId → Bool) → (l : ℕ) → Family l → List Cell
 nodes_after touched l family =
-    let nodes = part_heads l family.ids (bodies_left l family) ++ removed_node l family in
+    let nodes = own_cells l family.ids (bodies_left l family) ++ removed_node l family in
     if is_worked touched l family then nodes else []
 
 -- A node below the root has as many children as it may, and the low of the first is written 0.

@@ -3,7 +3,7 @@ use Rattle.std.specs.Prelude.{ℕ, Bool, true, false, ◌&&◌, if◌then◌else
 use Rattle.palm_base.specs.Cut.{cut}
 use Rattle.palm_base.specs.Pass.{with_lows, is_small}
 use Rattle.palm_base.specs.declared.bounds.TheConstants.{LEAST_CHILDREN, MOST_CHILDREN}
-use Rattle.palm_node.specs.InnerNode.{InnerNode}
+use Rattle.palm_node.specs.InnerNode.{InnerNode, inner_over}
 use Rattle.palm_node.specs.declared.id.NodeId.{NodeId}
 use Rattle.palm_node.specs.declared.id.Piece.{Piece}
 use Rattle.palm_node.specs.declared.node.Node.{Node}
@@ -12,7 +12,7 @@ use Rattle.palm_node.specs.declared.change.Change.{Change}
 use Rattle.palm_node.specs.declared.change.Removed.{Removed}
 use Rattle.palm_arena.specs.Cells.{Cell}
 use Rattle.palm_arena.specs.Reads.{same_place, inner_in}
-use Rattle.palm_level.specs.Splices.{last_step, path_above, children_left, inner_over}
+use Rattle.palm_level.specs.Splices.{last_step, path_above, children_left}
 use Rattle.palm_level.specs.Runs.{parent_of}
 
 -- A node whose children changed: its id, the way to it, its low, and the changes of its children.

@@ -1,5 +1,5 @@
 -- The children of a node, with what stands for those that changed.
-use Rattle.std.specs.Prelude.{◌+◌, ◌-◌, ◌<◌, ◌≤◌, ℕ, List, [], ◌∷◌, ◌++◌, length, map, take, drop, slice_index_or}
+use Rattle.std.specs.Prelude.{◌+◌, ◌-◌, ◌<◌, ◌≤◌, ℕ, List, [], ◌∷◌, ◌++◌, length, take, drop, slice_index_or}
 use Rattle.palm_node.specs.InnerNode.{InnerNode}
 use Rattle.palm_node.specs.declared.id.NodeId.{NodeId}
 use Rattle.palm_node.specs.declared.id.Piece.{Piece}
@@ -43,11 +43,3 @@ children_left node changes = spliced 0 (children_of node) changes
 abbrev pub PlacesRise : ℕ → ℕ → List Change → Type 0
 PlacesRise from most [] = from ≤ most
 PlacesRise from most (change ∷ changes) = (from ≤ child_place change) × (child_place change < most) × PlacesRise (child_place change + 1) most changes
-
--- The lows of pieces, past the first. So those of (0, a), (20, b) are 20.
-abbrev pub later_lows : List Piece → List ℕ
-later_lows pieces = map (λ piece. piece.low) (drop 1 pieces)
-
--- The node over pieces: the first one's low isn't asked. So over (3, a), (20, b) it is a, b with the separator 20.
-abbrev pub inner_over : List Piece → InnerNode
-inner_over pieces = record { children = map (λ piece. piece.id) pieces; separators = later_lows pieces }

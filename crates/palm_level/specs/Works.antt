@@ -1,22 +1,17 @@
 -- When a node's work may run, and what it leaves.
-use Rattle.std.specs.Prelude.{◌≡◌, ◌+◌, ◌≤◌, ◌<◌, ℕ, List, [], ◌∷◌, length, map, drop}
+use Rattle.std.specs.Prelude.{◌≡◌, ◌+◌, ◌≤◌, ◌<◌, List, [], ◌∷◌, length, map, drop}
 use Rattle.std.specs.Vec.{vec_capacity}
 use Rattle.std.specs.List.{AllByRecursion}
 use Rattle.palm_base.specs.Cut.{piece_count, cut}
 use Rattle.palm_base.specs.Pass.{first_low}
 use Rattle.palm_base.specs.declared.bounds.TheConstants.{MOST_CHILDREN}
-use Rattle.palm_node.specs.InnerNode.{InnerNode}
+use Rattle.palm_node.specs.InnerNode.{InnerNode, inner_over, later_lows, Rise}
 use Rattle.palm_node.specs.declared.id.Piece.{Piece}
 use Rattle.palm_node.specs.declared.node.Node.TheVariants.{Inner}
-use Rattle.palm_level.specs.Splices.{inner_over, later_lows, children_left, PlacesRise}
+use Rattle.palm_level.specs.Splices.{children_left, PlacesRise}
 use Rattle.palm_node.specs.declared.change.Change.{Change}
 use Rattle.palm_level.specs.declared.node_work.Part.{Part}
 use Rattle.palm_level.specs.declared.node_work.LevelWork.{LevelWork}
-
--- Each number is below all later ones. So 3, 7, 9 rise.
-abbrev pub Rise : List ℕ → Type 0
-Rise [] = Unit {0}
-Rise (first ∷ later) = AllByRecursion (λ number. first < number) later × Rise later
 
 -- The low of a part's first piece, and the node over it. So of (3, a), (20, b) it is 3 and the node a, b with the separator 20.
 abbrev pub part_over : List Piece → Part

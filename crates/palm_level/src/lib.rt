@@ -10,3 +10,4 @@ mod task;
 mod tests;
 
 pub use level::change_level;
+pub use plan::{all_stand_alone, children_after};

@@ -4,9 +4,9 @@ ghost use Rattle.std.specs.Vec.{vec_len, vec_capacity};
 ghost use Rattle.std.specs.List.Sorted.{IsStrictlyIncreasing};
 ghost use Rattle.palm_base.specs.Cut.{piece_count, cut};
 ghost use Rattle.std.specs.List.{AllByRecursion};
-ghost use Rattle.palm_node.specs.InnerNode.{IsInner};
-ghost use Rattle.palm_level.specs.Splices.{last_step, children_of, children_left, spliced, PlacesRise, later_lows, inner_over};
-ghost use Rattle.palm_level.specs.Works.{Rise, part_over, first_node, parts_left, CanSplice, IsReady, HasRun};
+ghost use Rattle.palm_node.specs.InnerNode.{IsInner, Rise, inner_over, later_lows};
+ghost use Rattle.palm_level.specs.Splices.{last_step, children_of, children_left, spliced, PlacesRise};
+ghost use Rattle.palm_level.specs.Works.{part_over, first_node, parts_left, CanSplice, IsReady, HasRun};
 
 use arrayvec::ArrayVec;
 use palm_arena::Lease;
@@ -85,37 +85,6 @@ pub fn splice(inner: &Inner, changes: &[Change], children: &mut Vec<Piece>)
     append_own(inner, from, count, children);
 }
 
-// Lists the ids and the lows of pieces.
-fn list_parts(
-    pieces: &[Piece],
-    ids: &mut ArrayVec<NodeId, MOST_CHILDREN>,
-    lows: &mut ArrayVec<u64, MOST_CHILDREN>,
-)
-    requires few { length pieces.now ≤ MOST_CHILDREN }
-    requires no_ids { ids.old.items ≡ [] }
-    requires no_lows { lows.old.items ≡ [] }
-    ensures ids { ids.new.items ≡ map (λ piece. piece.id) pieces.now }
-    ensures lows { lows.new.items ≡ map (λ piece. piece.low) pieces.now }
-{
-    for piece in pieces {
-        ids.push(piece.id);
-        lows.push(piece.low);
-    }
-}
-
-// The inner node over pieces, which stand from their lows on. The low of the first one isn't asked.
-fn node_over(pieces: &[Piece]) -> Inner
-    requires some { 1 ≤ length pieces.now }
-    requires few { length pieces.now ≤ MOST_CHILDREN }
-    requires rising { IsStrictlyIncreasing (later_lows pieces.now) }
-    ensures { result ≡ inner_over pieces.now }
-{
-    let mut ids = ArrayVec::new();
-    let mut lows = ArrayVec::new();
-    list_parts(pieces, &mut ids, &mut lows);
-    Inner::from_children(&ids, &lows[1..])
-}
-
 // The nodes over the parts that children are cut into, past the first part.
 fn cut_later(children: &[Piece], later: &mut Vec<Part>)
     requires some { 1 ≤ length children.now }
@@ -130,7 +99,7 @@ fn cut_later(children: &[Piece], later: &mut Vec<Part>)
         let (part, after) = rest.split_at(piece_size(MOST_CHILDREN, children.len(), i));
         later.push_reserved(Part {
             low: part[0].low,
-            node: node_over(part),
+            node: Inner::over(part),
         });
         rest = after;
     }
@@ -153,7 +122,7 @@ fn rework(inner: &mut Inner, changes: &[Change], children: &mut Vec<Piece>, late
         return;
     }
     let size = piece_size(MOST_CHILDREN, children.len(), 0);
-    *inner = node_over(&children[..size]);
+    *inner = Inner::over(&children[..size]);
     cut_later(children, later);
 }
 

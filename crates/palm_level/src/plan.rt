@@ -1,5 +1,5 @@
 // What is done to the parents of changed nodes: who they are, which of them are made anew, and the room for that.
-ghost use Rattle.std.specs.Prelude.{◌≡◌, ◌+◌, ◌-◌, ◌<◌, ◌≤◌, ◌∷◌, [], length, take, drop, map, sum_by, IfOk, Some, IsSome};
+ghost use Rattle.std.specs.Prelude.{◌≡◌, ◌+◌, ◌-◌, ◌<◌, ◌≤◌, ◌∷◌, [], length, take, drop, map, sum_by, true, false, IfOk, Some, IsSome, MatchOption};
 ghost use Rattle.std.specs.List.{AllByRecursion};
 ghost use Rattle.std.specs.Vec.{vec_len};
 ghost use Rattle.palm_node.specs.InnerNode.{IsInner};
@@ -12,10 +12,10 @@ ghost use Rattle.palm_level.specs.Runs.{parent_of, runs};
 ghost use Rattle.palm_level.specs.Groups.{touched_of, is_alone, is_still, low_at};
 ghost use Rattle.palm_level.specs.Plans.{Fits, IsInnerAt, CanWork, IsRoomAt, planned_key, touched_by, piece_total, HasRoom, IsPlanned};
 
-use crate::node_work::{Part, last_step_of, low_of_child};
+use crate::node_work::{Part, last_step_of, low_of_child, splice};
 use palm_arena::Arena;
 use palm_base::{MOST_CHILDREN, NoMemory};
-use palm_node::{Change, Inner, Node, NodeId, Path, Piece, pieces};
+use palm_node::{Change, Inner, Node, NodeId, Path, Piece, PieceList, pieces};
 use std::alloc::Global;
 
 /// An inner node with children that changed: where it is, the way to it, its low, and the changes of its children.
@@ -69,8 +69,8 @@ fn stands_alone(change: &Change) -> bool
     }
 }
 
-// Whether each of the changed children stands for itself alone, so that their parent stays as it is.
-fn all_stand_alone(changes: &[Change]) -> bool
+/// Whether each of the changed nodes stands for itself alone, so that their parent stays as it is.
+pub fn all_stand_alone(changes: &[Change]) -> bool
     ensures { result ≡ is_still changes.now }
 {
     for change in changes {
@@ -94,6 +94,27 @@ fn count_most(inner: &Inner, changes: &[Change]) -> Result<usize, NoMemory>
         }
     }
     Ok(count)
+}
+
+/// What is left of the children of an inner node where some of them changed: those that didn't, and what stands for those that
+/// did. `None` where each of these stands for itself alone, so that the node stays as it is. `NoMemory` where room was refused.
+pub fn children_after(
+    alloc: Global,
+    inner: &Inner,
+    changes: &[Change],
+) -> Result<Option<PieceList>, NoMemory>
+    requires inner { IsInner inner.now }
+    requires paths { AllByRecursion (λ change. 0 < length change.path) changes.now }
+    requires places { PlacesRise 0 (length inner.now.children) changes.now }
+    ensures { IfOk result (λ left. MatchOption left (is_still changes.now ≡ true) (λ children. (is_still changes.now ≡ false) × (children ≡ children_left inner.now changes.now))) }
+{
+    if all_stand_alone(changes) {
+        return Ok(None);
+    }
+    let most = count_most(inner, changes)?;
+    let mut children = Vec::with_capacity(alloc, most)?;
+    splice(inner, changes, &mut children);
+    Ok(Some(PieceList::from_vec(children)))
 }
 
 // Room for the work on a node.

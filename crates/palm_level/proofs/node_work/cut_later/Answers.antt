@@ -1,9 +1,9 @@
 use Rattle.std.proofs.Common.{arith, ap, ◌∙◌, sym, subst, ◌≤◌, ◌+◌, ◌<◌, length, take, refl}
 use Rattle.palm_base.specs.declared.bounds.TheConstants.{MOST_CHILDREN}
 use Rattle.std.specs.List.Sorted.{IsStrictlyIncreasing}
-use Rattle.palm_level.specs.Splices.{later_lows}
+use Rattle.palm_node.specs.InnerNode.{later_lows}
 use Rattle.palm_level.proofs.LaterParts.{PartsSoFar, parts_first, part_fits, parts_next, parts_last, first_part}
-use Rattle.palm_level.proofs.Rising.{rise_increasing}
+use Rattle.palm_node.proofs.RisingLows.{rise_increasing}
 use Rattle.palm_level.proofs.node_work.cut_later.Goals as goal
 
 pub split_at-requires : goal.split_at-requires
@@ -16,20 +16,20 @@ loop-i-init c = record {
   capacity = refl;
 }
 
-pub node_over-requires-clause-some : goal.node_over-requires-clause-some
-node_over-requires-clause-some c =
+pub over-requires-clause-some : goal.over-requires-clause-some
+over-requires-clause-some c =
     let less = subst (λ n. c.loop-i.i < n) c.pieces-count.ensures c.loop-i-test.true in
     let fits = part_fits c.args.children.now c.loop-i.rest.now c.loop-i.later.items c.loop-i.i c.piece_size-in-loop-i.result c.loop-i.invariant.far less c.piece_size-in-loop-i.ensures in
     subst (λ l. 1 ≤ length l) (sym c.split_at-in-loop-i.ensures.front) fits.1.0
 
-pub node_over-requires-clause-few : goal.node_over-requires-clause-few
-node_over-requires-clause-few c =
+pub over-requires-clause-few : goal.over-requires-clause-few
+over-requires-clause-few c =
     let less = subst (λ n. c.loop-i.i < n) c.pieces-count.ensures c.loop-i-test.true in
     let fits = part_fits c.args.children.now c.loop-i.rest.now c.loop-i.later.items c.loop-i.i c.piece_size-in-loop-i.result c.loop-i.invariant.far less c.piece_size-in-loop-i.ensures in
     subst (λ l. length l ≤ MOST_CHILDREN) (sym c.split_at-in-loop-i.ensures.front) fits.1.1
 
-pub node_over-requires-clause-rising : goal.node_over-requires-clause-rising
-node_over-requires-clause-rising c =
+pub over-requires-clause-rising : goal.over-requires-clause-rising
+over-requires-clause-rising c =
     let less = subst (λ n. c.loop-i.i < n) c.pieces-count.ensures c.loop-i-test.true in
     let fits = part_fits c.args.children.now c.loop-i.rest.now c.loop-i.later.items c.loop-i.i c.piece_size-in-loop-i.result c.loop-i.invariant.far less c.piece_size-in-loop-i.ensures in
     subst (λ l. IsStrictlyIncreasing (later_lows l)) (sym c.split_at-in-loop-i.ensures.front) (rise_increasing (later_lows (take c.piece_size-in-loop-i.result c.loop-i.rest.now)) fits.2)
@@ -37,8 +37,8 @@ node_over-requires-clause-rising c =
 pub loop-i-preserved : goal.loop-i-preserved
 loop-i-preserved c =
     let less = subst (λ n. c.loop-i.i < n) c.pieces-count.ensures c.loop-i-test.true in
-    let next = parts_next c.args.children.now c.loop-i.rest.now c.split_at-in-loop-i.result.0.now c.split_at-in-loop-i.result.1.now c.loop-i.later.items c.loop-i.i c.piece_size-in-loop-i.result _ c.node_over.result
-    c.loop-i.invariant.far less c.piece_size-in-loop-i.ensures c.split_at-in-loop-i.ensures.front c.split_at-in-loop-i.ensures.back c.node_over.ensures in
+    let next = parts_next c.args.children.now c.loop-i.rest.now c.split_at-in-loop-i.result.0.now c.split_at-in-loop-i.result.1.now c.loop-i.later.items c.loop-i.i c.piece_size-in-loop-i.result _ c.over.result
+    c.loop-i.invariant.far less c.piece_size-in-loop-i.ensures c.split_at-in-loop-i.ensures.front c.split_at-in-loop-i.ensures.back c.over.ensures in
     record {
       far = subst (PartsSoFar c.args.children.now (c.loop-i.i + 1) c.split_at-in-loop-i.result.1.now) (sym c.push_reserved.ensures.items) next;
       len = omega (arith, c.push_reserved.ensures.len, c.loop-i.invariant.len);
