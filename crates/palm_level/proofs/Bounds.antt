@@ -46,7 +46,7 @@ parts_few pieces =
     by : (t c k : ℕ) → k ≡ c - 1 → c ≡ piece_count MOST_CHILDREN t → k ≤ t - 16
     by t c k n m = omega (arith, n, m)
 
-more_in : (W : NodeId → Bool) (l : ℕ) (rs : List (Result l)) → more_pieces (map (change_of l) (filter (is_hit W l) rs)) ≡ sum_by (λ (r : Result l). past_first r.pieces) (filter (is_hit W l) rs)
+pub more_in : (W : NodeId → Bool) (l : ℕ) (rs : List (Result l)) → more_pieces (map (change_of l) (filter (is_hit W l) rs)) ≡ sum_by (λ (r : Result l). past_first r.pieces) (filter (is_hit W l) rs)
 more_in W l rs = go (filter (is_hit W l) rs)
   where
     go : (rs : List (Result l)) → more_pieces (map (change_of l) rs) ≡ sum_by (λ (r : Result l). past_first r.pieces) rs
