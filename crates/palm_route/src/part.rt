@@ -1,0 +1,65 @@
+use palm_base::{Amount, Digits, Limit};
+use palm_node::{ItemList, NodeId, Path};
+
+/// Parts of calls, in order. Contracts see the list.
+pub type PartList = ItemList<Part>;
+
+/// Routed parts, in order. Contracts see the list.
+pub type RoutedList = ItemList<Routed>;
+
+/// Touched leaves, in order. Contracts see the list.
+pub type Groups = ItemList<Group>;
+
+/// What a part asks of its leaf.
+#[derive(Clone, Copy, Debug, PartialEq, Eq)]
+pub enum Ask {
+    /// Gives the prefix of the part's key a row with this rate.
+    Set(Amount),
+    /// Takes out the row of the prefix of the part's key.
+    Del,
+    /// Looks for the row of the prefix of the part's key.
+    Look,
+    /// Lists rows from one prefix to another, both included, as many as the limit allows.
+    List {
+        from: Digits,
+        to: Digits,
+        limit: Limit,
+    },
+}
+
+/// A part of a call, which one leaf answers.
+#[derive(Debug, Drop)]
+pub struct Part {
+    /// The place of the call's entry in the batch, counted from 0.
+    pub entry: u64,
+    /// The part's number within its entry, counted from 0.
+    pub number: u64,
+    /// The packed key by which it is routed.
+    pub key: u64,
+    pub ask: Ask,
+}
+
+/// A part with the leaf whose range has its key.
+#[derive(Debug, Drop)]
+pub struct Routed {
+    pub part: Part,
+    /// The leaf.
+    pub leaf: NodeId,
+    /// The way to the leaf from the root.
+    pub path: Path,
+    /// The packed key at which the leaf's range begins, 0 for the first leaf.
+    pub low: u64,
+}
+
+/// A touched leaf with its parts.
+#[derive(Debug, Drop)]
+pub struct Group {
+    /// The leaf.
+    pub leaf: NodeId,
+    /// The way to the leaf from the root.
+    pub path: Path,
+    /// The packed key at which the leaf's range begins, 0 for the first leaf.
+    pub low: u64,
+    /// The leaf's parts in the order in which their calls arrived.
+    pub parts: PartList,
+}
