@@ -1,3 +1,9 @@
 //! The leaves of a batch: each touched leaf's parts are resolved over its rows, and the rows that are left are cut into
 //! leaves again.
 #![tactic(auto)]
+
+mod answer;
+mod leaf_work;
+mod rows;
+
+pub use answer::{AnswerList, LeafAnswer, LeafOutcome, PartAnswer};

@@ -20,7 +20,7 @@ use Rattle.palm_arena.specs.declared.place.Place.TheVariants.{Holds}
 use Rattle.palm_arena.proofs.Standing.{none_lent_after_put}
 use Rattle.palm_tree.specs.Levels.{piece_lows, piece_ids, ReadAs, IsLevel, IsRaised, Rise}
 use Rattle.palm_tree.proofs.PieceReads.{IsBetween, read_length, read_lows, read_take, node_added, between_first, between_last}
-use Rattle.palm_tree.proofs.CutSteps.{pieces_left, IsCutTo, left_first, left_next, left_last, cut_first, cut_next, next_fits, cut_last, later_nodes, next_own, nodes_next, nodes_last}
+use Rattle.palm_base.proofs.CutSteps.{pieces_left, IsCutTo, left_first, left_next, left_last, cut_first, cut_next, next_fits, cut_last, later_nodes, next_own, nodes_next, nodes_last}
 
 -- ---- rising lows
 

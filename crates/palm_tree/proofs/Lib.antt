@@ -4,7 +4,6 @@ pub mod Builds
 pub mod BuiltTrees
 pub mod ChildParts
 pub mod Children
-pub mod CutSteps
 pub mod Descents
 pub mod EmptyTree
 pub mod FrontRates

@@ -4,7 +4,7 @@ use Rattle.palm_base.specs.Cut.{piece_count}
 use Rattle.palm_base.specs.Pass.{first_low}
 use Rattle.palm_base.specs.declared.bounds.TheConstants.{MOST_LEAF_ROWS}
 use Rattle.palm_tree.proofs.AddedLeaves.{leaves_first, leaves_next, leaf_table}
-use Rattle.palm_tree.proofs.CutSteps.{some_left, own_low}
+use Rattle.palm_base.proofs.CutSteps.{some_left, own_low}
 use Rattle.palm_tree.proofs.build.add_leaves.Goals as goal
 
 pub loop-i-init : goal.loop-i-init

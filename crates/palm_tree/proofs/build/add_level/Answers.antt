@@ -5,7 +5,7 @@ use Rattle.palm_base.specs.Pass.{first_low}
 use Rattle.palm_base.specs.declared.bounds.TheConstants.{MOST_CHILDREN}
 use Rattle.palm_node.specs.declared.id.Piece.{Piece}
 use Rattle.palm_tree.proofs.AddedNodes.{nodes_first, nodes_put, node_parts, nodes_all}
-use Rattle.palm_tree.proofs.CutSteps.{some_left, own_low}
+use Rattle.palm_base.proofs.CutSteps.{some_left, own_low}
 use Rattle.palm_tree.proofs.build.add_level.Goals as goal
 
 pub loop-i-init : goal.loop-i-init

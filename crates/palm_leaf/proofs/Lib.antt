@@ -1,0 +1,4 @@
+pub mod LaterLeaves
+pub mod Opened
+pub mod Ranges
+pub mod Working

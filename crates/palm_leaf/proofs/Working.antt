@@ -1,0 +1,34 @@
+-- What a leaf's work leaves where the leaf isn't kept.
+use Rattle.std.proofs.Common.{◌≡◌, ℕ, true, false, List, [], ◌∷◌, refl, sym, ap, subst, arith, ◌∙◌, ◌⊎◌, inl, inr, Some}
+use Rattle.palm_base.specs.Cut.{cut}
+use Rattle.palm_base.specs.Table.{row_key, after_all}
+use Rattle.palm_base.specs.Pass.{Outcome, is_small, leaves_of, with_lows}
+use Rattle.palm_base.specs.declared.bounds.TheConstants.{MOST_LEAF_ROWS}
+use Rattle.palm_base.specs.declared.row.Row.{Row}
+use Rattle.palm_base.proofs.Cuts.{cut_none}
+use Rattle.palm_node.specs.declared.node.Node.{Node}
+use Rattle.palm_node.specs.declared.node.Node.TheVariants.{Leaf}
+use Rattle.palm_route.specs.Edits.{edits_of}
+use Rattle.palm_leaf.specs.Answers.{rows_in_node}
+use Rattle.palm_leaf.specs.Worked.{leaf_left, outcome_shown, low_and_rows, parts_of_plan, IsResolved, IsWorked}
+use Rattle.palm_leaf.specs.declared.leaf_work.LeafPlan.{LeafPlan}
+use Rattle.palm_leaf.specs.declared.leaf_work.LeafWork.{LeafWork}
+
+-- No row, or too few, are no leaf.
+pub left_removed : (least low : ℕ) (rows first : List Row) (later : List (ℕ × List Row)) → ((rows ≡ []) ⊎ (is_small least rows ≡ true)) → outcome_shown false low first later rows ≡ leaf_left least low rows
+left_removed least low rows first later (inl none) = rw (none, cut_none {X = Row} MOST_LEAF_ROWS (omega arith)) refl
+left_removed least low rows first later (inr small) = rw small refl
+
+pub worked_removed : (rows : List Row) (node : Node) (work : LeafWork) (plan : LeafPlan) → IsResolved (rows_in_node (Some node)) work.plan plan → node ≡ work.lease.node → work.lease.node ≡ Leaf rows
+    → work.plan.kept ≡ false → ((plan.rows.items ≡ []) ⊎ (is_small plan.least plan.rows.items ≡ true)) → IsWorked rows work (record { lease = work.lease; plan = plan })
+worked_removed rows node work plan resolved read leaf not_kept removed =
+    let done : IsResolved rows work.plan plan = subst (λ n. IsResolved (rows_in_node (Some n)) work.plan plan) (read ∙ leaf) resolved in
+    record {
+      id = refl;
+      path = done.path;
+      low = done.low;
+      answers = done.answers;
+      outcome = rw (done.kept ∙ not_kept)
+          (left_removed plan.least work.plan.low plan.rows.items [] [] removed
+          ∙ ap (λ least. leaf_left least work.plan.low plan.rows.items) done.least ∙ ap (leaf_left work.plan.least work.plan.low) done.rows-are);
+    }
