@@ -6,3 +6,9 @@ pub mod Keeping
 pub mod Putting
 pub mod Seeing
 pub mod Standing
+pub mod CellLists
+pub mod ListParts
+pub mod Natural
+pub mod SitePasses
+pub mod Turning
+pub mod LevelCells

@@ -6,9 +6,9 @@ use Rattle.std.specs.Prelude.{◌≡◌, ℕ, ◌≤◌, ◌-◌, Bool, true, fa
 use Rattle.std.specs.List.{flat_map, AllByRecursion, list_any}
 use Rattle.std.specs.List.Sorted.{IsPermutation}
 use Rattle.std.proofs.Common.{zero, suc}
-use Rattle.palm_base.specs.Tree.{Tree, rows_of}
+use Rattle.palm_base.specs.Tree.{Tree}
 use Rattle.palm_base.specs.Table.{after_all}
-use Rattle.palm_base.specs.Pass.{Outcome, is_edit, base_level, base_pass, top, passed_tree}
+use Rattle.palm_base.specs.Pass.{Outcome, is_edit, base_level, base_pass, passed_tree}
 use Rattle.palm_base.specs.Lawful.{IsLawful}
 use Rattle.palm_base.specs.Lows.{LowsAreKeys, SetsPrefix}
 use Rattle.palm_base.specs.declared.call.Call.{Call}
@@ -18,8 +18,8 @@ use Rattle.palm_node.specs.declared.change.Changes.{Changes}
 use Rattle.palm_arena.specs.declared.shape.Shape.{Shape}
 use Rattle.palm_arena.specs.Reads.{same_place}
 use Rattle.palm_arena.specs.Cells.{Cell, Owns}
-use Rattle.palm_arena.specs.Placed.{Placed, PlacedTree, value_in, value_of, cells_of}
-use Rattle.palm_arena.specs.Sites.{Site, raised, sites_below, outcome_at}
+use Rattle.palm_arena.specs.Placed.{PlacedTree, value_in, value_of, cells_of}
+use Rattle.palm_arena.specs.Sites.{Site, raised, sites_below}
 use Rattle.palm_arena.specs.Standing.{Kept, kept_cells, kept_rows, removed_of, Stands}
 
 -- A pass: the tree before it with its ids, the edits in order, the leaves to which something is routed, and the nodes that

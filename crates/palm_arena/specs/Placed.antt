@@ -1,9 +1,8 @@
 -- Trees with the ids that their nodes stand at.
-use Rattle.std.specs.Prelude.{◌≡◌, ℕ, ◌<◌, List, [], ◌∷◌, ◌++◌, length, map, drop}
-use Rattle.std.specs.List.{flat_map, AllByRecursion}
+use Rattle.std.specs.Prelude.{ℕ, List, [], ◌∷◌, map, drop}
+use Rattle.std.specs.List.{flat_map}
 use Rattle.std.proofs.Common.{zero, suc}
 use Rattle.palm_base.specs.Tree.{Subtree, Tree}
-use Rattle.palm_base.specs.Lawful.{next_low}
 use Rattle.palm_base.specs.declared.row.Row.{Row}
 use Rattle.palm_node.specs.declared.id.NodeId.{NodeId}
 use Rattle.palm_node.specs.declared.id.Piece.{Piece}

@@ -2,7 +2,6 @@
 use Rattle.std.specs.Prelude.{ℕ, List, [], ◌∷◌, ◌++◌, map, filter}
 use Rattle.std.specs.List.{flat_map}
 use Rattle.std.proofs.Common.{zero, suc}
-use Rattle.palm_base.specs.Tree.{Subtree}
 use Rattle.palm_base.specs.Pass.{Outcome, goes_left, goes_right, pass, base_pass}
 use Rattle.palm_base.specs.declared.call.Call.{Call}
 use Rattle.palm_node.specs.declared.id.NodeId.{NodeId}
