@@ -16,7 +16,8 @@ finds_fewer m n room (ask.List from to limit) few finds = λ most within among. 
 
 -- What has room among n rows has room among fewer.
 pub open_fewer : (m n : ℕ) (asked : Asked) → m ≤ n → IsOpen n asked → IsOpen m asked
-open_fewer m n asked few waits = record { none = waits.none; room = finds_fewer m n _ asked.part.ask few waits.room; key = waits.key }
+open_fewer m n asked few waits =
+    record { room = record { none = waits.room.none; room = finds_fewer m n _ asked.part.ask few waits.room.room }; key = waits.key }
 
 pub all_open_fewer : (m n : ℕ) (asked : List Asked) → m ≤ n → AllByRecursion (IsOpen n) asked → AllByRecursion (IsOpen m) asked
 all_open_fewer m n asked few = every_weaker (IsOpen n) (IsOpen m) (λ one. open_fewer m n one few) asked

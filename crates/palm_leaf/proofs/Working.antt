@@ -1,5 +1,5 @@
 -- What a leaf's work leaves where the leaf isn't kept.
-use Rattle.std.proofs.Common.{◌≡◌, ℕ, true, false, List, [], ◌∷◌, refl, sym, ap, subst, arith, ◌∙◌, ◌⊎◌, inl, inr, Some}
+use Rattle.std.proofs.Common.{◌≡◌, ◌≤◌, vec_len, ℕ, true, false, List, [], ◌∷◌, refl, sym, ap, subst, arith, ◌∙◌, ◌⊎◌, inl, inr, Some}
 use Rattle.palm_base.specs.Cut.{cut}
 use Rattle.palm_base.specs.Table.{row_key, after_all}
 use Rattle.palm_base.specs.Pass.{Outcome, is_small, leaves_of, with_lows}
@@ -20,13 +20,16 @@ left_removed least low rows first later (inl none) = rw (none, cut_none {X = Row
 left_removed least low rows first later (inr small) = rw small refl
 
 pub worked_removed : (rows : List Row) (node : Node) (work : LeafWork) (plan : LeafPlan) → IsResolved (rows_in_node (Some node)) work.plan plan → node ≡ work.lease.node → work.lease.node ≡ Leaf rows
-    → work.plan.kept ≡ false → ((plan.rows.items ≡ []) ⊎ (is_small plan.least plan.rows.items ≡ true)) → IsWorked rows work (record { lease = work.lease; plan = plan })
-worked_removed rows node work plan resolved read leaf not_kept removed =
+    → work.plan.kept ≡ false → vec_len work.plan.later ≡ 0 → ((plan.rows.items ≡ []) ⊎ (is_small plan.least plan.rows.items ≡ true)) → IsWorked rows work (record { lease = work.lease; plan = plan })
+worked_removed rows node work plan resolved read leaf not_kept none removed =
     let done : IsResolved rows work.plan plan = subst (λ n. IsResolved (rows_in_node (Some n)) work.plan plan) (read ∙ leaf) resolved in
+    let few : vec_len plan.later ≤ vec_len work.plan.asked = rw (done.later, none) (omega arith) in
     record {
       id = refl;
       path = done.path;
       low = done.low;
+      leaf = (rows, leaf);
+      few = few;
       answers = done.answers;
       outcome = rw (done.kept ∙ not_kept)
           (left_removed plan.least work.plan.low plan.rows.items [] [] removed

@@ -36,9 +36,12 @@ AskFindsRoom n ask.Del room = Unit {0}
 AskFindsRoom n ask.Look room = Unit {0}
 AskFindsRoom n (ask.List from to limit) room = FindsRoom limit n room
 
--- The part waits for its answer: it has found no rows yet, has room for those that it may find among n rows, and goes by a key
--- where it is an edit.
-pub record IsOpen (n : ℕ) (asked : Asked) : Type 0 where
+-- The part has found no rows yet, and has room for those that it may find among n rows.
+pub record HasRoom (n : ℕ) (asked : Asked) : Type 0 where
   pub none : asked.found.items ≡ []
   pub room : AskFindsRoom n asked.part.ask (vec_capacity asked.found)
+
+-- The part waits for its answer: it has room among n rows, and goes by a key where it is an edit.
+pub record IsOpen (n : ℕ) (asked : Asked) : Type 0 where
+  pub room : HasRoom n asked
   pub key : HasKey asked.part

@@ -34,6 +34,10 @@ outcome_shown kept low first later rows =
     let removed : Outcome zero = record { pieces = []; loose = rows } in
     if kept then record { pieces = (low, first) ∷ later; loose = [] } else removed
 
+-- The outcome that a plan shows after the work, where these rows stand in the leaf.
+abbrev pub outcome_of_plan : List Row → LeafPlan → Outcome zero
+outcome_of_plan first plan = outcome_shown plan.kept plan.low first (map low_and_rows plan.later.items) plan.rows.items
+
 -- A plan before the work: nothing is listed yet, and there is room for all that may come of a full leaf.
 pub record IsPlan (plan : LeafPlan) : Type 0 where
   pub no_rows : plan.rows.items ≡ []
@@ -60,8 +64,10 @@ pub record IsWorked (rows : List Row) (before after : LeafWork) : Type 0 where
   pub id : after.lease.id ≡ before.lease.id
   pub path : after.plan.path ≡ before.plan.path
   pub low : after.plan.low ≡ before.plan.low
+  pub leaf : (left : List Row) × (after.lease.node ≡ Leaf left)
+  pub few : vec_len after.plan.later ≤ vec_len before.plan.asked
   pub answers : answers_of_plan after.plan ≡ answers_in rows (parts_of_plan before.plan)
-  pub outcome : outcome_shown after.plan.kept before.plan.low (rows_in_node (Some after.lease.node)) (map low_and_rows after.plan.later.items) after.plan.rows.items ≡ leaf_left before.plan.least before.plan.low (after_all rows (edits_of (parts_of_plan before.plan)))
+  pub outcome : outcome_of_plan (rows_in_node (Some after.lease.node)) after.plan ≡ leaf_left before.plan.least before.plan.low (after_all rows (edits_of (parts_of_plan before.plan)))
 
 abbrev pub HasRun : LeafWork → LeafWork → Type 0
 HasRun before after = (rows : List Row) → before.lease.node ≡ Leaf rows → IsWorked rows before after

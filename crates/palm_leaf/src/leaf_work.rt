@@ -1,5 +1,5 @@
 // One leaf's work: from its rows and its parts to the answers and the leaves that stand for it.
-ghost use Rattle.std.specs.Prelude.{◌≡◌, ℕ, ◌≤◌, ◌<◌, ◌+◌, ◌∷◌, ◌⊎◌, true, false, List, [], length, map, take, Some, vec_capacity};
+ghost use Rattle.std.specs.Prelude.{◌≡◌, ℕ, ◌≤◌, ◌<◌, ◌+◌, ◌∷◌, ◌⊎◌, true, false, List, [], length, map, take, Some, vec_len, vec_capacity};
 ghost use Rattle.palm_base.specs.Table.{IsTable};
 ghost use Rattle.palm_base.specs.Cut.{piece_count, piece_size};
 ghost use Rattle.palm_base.specs.Pass.{is_small, leaves_of};
@@ -66,7 +66,8 @@ fn cut_later(rows: &[Row], later: &mut Vec<NewLeaf>)
     requires some { 0 < length rows.now }
     requires none { later.old.items ≡ [] }
     requires room { piece_count MOST_LEAF_ROWS (length rows.now) ≤ vec_capacity later.old + 1 }
-    ensures { (low : ℕ) → (low, take (piece_size MOST_LEAF_ROWS (length rows.now) 0) rows.now) ∷ map low_and_rows later.new.items ≡ leaves_of low rows.now }
+    ensures count { vec_len later.new + 1 ≡ piece_count MOST_LEAF_ROWS (length rows.now) }
+    ensures pieces { (low : ℕ) → (low, take (piece_size MOST_LEAF_ROWS (length rows.now) 0) rows.now) ∷ map low_and_rows later.new.items ≡ leaves_of low rows.now }
 {
     let count = rows.len();
     let (_, mut rest) = rows.split_at(piece_size(MOST_LEAF_ROWS, count, 0));
@@ -110,6 +111,8 @@ fn keep(lease: &mut Lease, plan: &mut LeafPlan)
     requires none { plan.old.later.items ≡ [] }
     requires room { piece_count MOST_LEAF_ROWS (length plan.old.rows.items) ≤ vec_capacity plan.old.later + 1 }
     ensures id { lease.new.id ≡ lease.old.id }
+    ensures leaf { (rows : List Row) × (lease.new.node ≡ Node.Leaf rows) }
+    ensures count { vec_len plan.new.later + 1 ≡ piece_count MOST_LEAF_ROWS (length plan.old.rows.items) }
     ensures plan { plan.new ≡ record plan.old { later = plan.new.later; kept = true } }
     ensures pieces { (low : ℕ) → (low, rows_in_node (Some lease.new.node)) ∷ map low_and_rows plan.new.later.items ≡ leaves_of low plan.old.rows.items }
 {

@@ -4,6 +4,8 @@
 
 mod answer;
 mod leaf_work;
+mod lending;
+mod room;
 mod rows;
 
 pub use answer::{AnswerList, LeafAnswer, LeafOutcome, PartAnswer};

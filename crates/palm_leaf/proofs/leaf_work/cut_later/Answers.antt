@@ -35,5 +35,5 @@ loop-i-preserved c =
       capacity = c.push_reserved.ensures.capacity ∙ c.loop-i.invariant.capacity;
     }
 
-pub returns : goal.returns
-returns c = all_made c.args.rows.now c.loop-i.i c.loop-i.rest.now c.loop-i.later.items c.requires.some (omega (arith, c.loop-i-test.false, c.pieces-i-end.ensures)) c.loop-i.invariant.far
+pub returns-clause-pieces : goal.returns-clause-pieces
+returns-clause-pieces c = all_made c.args.rows.now c.loop-i.i c.loop-i.rest.now c.loop-i.later.items c.requires.some (omega (arith, c.loop-i-test.false, c.pieces-i-end.ensures)) c.loop-i.invariant.far
