@@ -5,4 +5,5 @@ pub mod Opened
 pub mod ParentLows
 pub mod PlanRoom
 pub mod Ranges
+pub mod Settlings
 pub mod Working

@@ -7,5 +7,6 @@ mod leaf_work;
 mod lending;
 mod room;
 mod rows;
+mod settling;
 
 pub use answer::{AnswerList, LeafAnswer, LeafOutcome, PartAnswer};
