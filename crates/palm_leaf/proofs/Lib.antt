@@ -1,9 +1,13 @@
+mod Filtered
 pub mod LaterLeaves
+mod LeavesRun
 pub mod Lendings
 pub mod LentIds
+pub mod Loads
 pub mod Opened
 pub mod ParentLows
 pub mod PlanRoom
 pub mod Ranges
+pub mod SettleSteps
 pub mod Settlings
 pub mod Working

@@ -5,4 +5,5 @@ pub mod Lending
 pub mod Loads
 pub mod Routed
 pub mod Settling
+pub mod Stage
 pub mod Worked

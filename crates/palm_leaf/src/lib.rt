@@ -4,9 +4,11 @@
 
 mod answer;
 mod leaf_work;
+mod leaves;
 mod lending;
 mod room;
 mod rows;
 mod settling;
 
 pub use answer::{AnswerList, LeafAnswer, LeafOutcome, PartAnswer};
+pub use leaves::change_leaves;
