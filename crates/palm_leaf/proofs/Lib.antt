@@ -1,6 +1,8 @@
 mod Filtered
 pub mod LaterLeaves
 mod LeavesRun
+mod LeafStands
+mod LoadFacts
 pub mod Lendings
 pub mod LentIds
 pub mod Loads

@@ -72,14 +72,18 @@ fn work_leaves<R: Threads + Sync, G: Gate + Sync, L: Ledger>(
 {
     let mut done = Vec::with_capacity(alloc, groups.len())?;
     let mut works = Vec::with_capacity(alloc, groups.len())?;
-    if let Err(refused) = lend_leaves(alloc, arena, groups, least, &mut works, steps) {
-        give_leaves_back(arena, works, &mut done);
-        return Err(refused);
+    match lend_leaves(alloc, arena, groups, least, &mut works, steps) {
+        Ok(()) => {
+            run_works(rt, alloc, &mut works, workers, gate);
+            give_leaves_back(arena, works, &mut done);
+            let gathered = settle_leaves(alloc, arena, done, steps)?;
+            Ok(gathered)
+        }
+        Err(refused) => {
+            give_leaves_back(arena, works, &mut done);
+            Err(refused)
+        }
     }
-    run_works(rt, alloc, &mut works, workers, gate);
-    give_leaves_back(arena, works, &mut done);
-    let gathered = settle_leaves(alloc, arena, done, steps)?;
-    Ok(gathered)
 }
 
 /// Does the leaves of a pass: each touched leaf's parts are resolved over its rows in the order of their arrival, each part is
