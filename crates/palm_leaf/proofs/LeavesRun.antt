@@ -92,7 +92,7 @@ same_back (cell ∷ cells) =
     (same_append (cell ∷ []) (cell ∷ []) (reverse cells) cells (λ i. refl) (same_back cells)))
 
 -- A map has each of the cells that it owns.
-all_held : (nodes : NodeId → Option Node) (cells others : List Cell) → Owns nodes (cells ++ others) → AllByRecursion (λ cell. nodes cell.0 ≡ Some cell.1) cells
+pub all_held : (nodes : NodeId → Option Node) (cells others : List Cell) → Owns nodes (cells ++ others) → AllByRecursion (λ cell. nodes cell.0 ≡ Some cell.1) cells
 all_held nodes [] others owned = tt
 all_held nodes (cell ∷ cells) others owned =
     ((owned_front nodes cell.0 cell.1 (cells ++ others) owned).0,

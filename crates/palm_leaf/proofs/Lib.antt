@@ -12,4 +12,5 @@ pub mod PlanRoom
 pub mod Ranges
 pub mod SettleSteps
 pub mod Settlings
+pub mod StagePass
 pub mod Working

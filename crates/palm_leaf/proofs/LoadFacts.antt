@@ -36,7 +36,7 @@ use Rattle.palm_leaf.specs.Worked.{leaf_left}
 -- ---- levels
 
 -- The level so many levels above the leaves has their number.
-raised_sum : (l d : ℕ) → raised l d ≡ l + d
+pub raised_sum : (l d : ℕ) → raised l d ≡ l + d
 raised_sum l zero = omega arith
 raised_sum l (suc d) = raised_sum (suc l) d ∙ omega arith
 
