@@ -1,5 +1,5 @@
 -- Lists that are filtered twice, and what holds of what a filter leaves.
-use Rattle.std.proofs.Common.{◌≡◌, Bool, true, false, cond, List, [], ◌∷◌, refl, sym, ap, ◌∙◌}
+use Rattle.std.proofs.Common.{◌≡◌, Bool, true, false, cond, List, [], ◌∷◌, refl, ap}
 use Rattle.std.specs.List.{filter, AllByRecursion}
 
 -- One filter before another.

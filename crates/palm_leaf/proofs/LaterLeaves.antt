@@ -1,15 +1,15 @@
 -- The leaves past the first that rows are cut into.
-use Rattle.std.proofs.Common.{◌≡◌, ℕ, ◌+◌, ◌<◌, ◌≤◌, List, [], ◌∷◌, ◌++◌, map, take, drop, length, get_or, refl, sym, ap, subst, arith, ◌∙◌, append_assoc}
+use Rattle.std.proofs.Common.{◌≡◌, ℕ, ◌+◌, ◌<◌, ◌≤◌, List, [], ◌∷◌, ◌++◌, map, take, drop, length, get_or, refl, sym, ap, arith, ◌∙◌, append_assoc}
 use Rattle.std.proofs.lemmas.List.{append-nil}
 use mathlib.Core.List.{map-append}
 use Rattle.palm_base.specs.Key.{key}
 use Rattle.palm_base.specs.Table.{row_key, IsTable}
-use Rattle.palm_base.specs.Cut.{piece_count, piece_size, cut}
+use Rattle.palm_base.specs.Cut.{piece_count, piece_size}
 use Rattle.palm_base.specs.Pass.{first_low, with_lows, leaves_of}
 use Rattle.palm_base.specs.declared.bounds.TheConstants.{MOST_LEAF_ROWS, LEAST_LEAF_ROWS}
 use Rattle.palm_base.specs.declared.row.Row.{Row}
 use Rattle.palm_base.proofs.CutSteps.{pieces_left, IsCutTo, left_first, left_next, left_last, cut_first, cut_next, next_fits}
-use Rattle.palm_base.proofs.Tables.{table_take, table_drop}
+use Rattle.palm_base.proofs.Tables.{table_drop}
 use Rattle.palm_leaf.specs.Worked.{low_and_rows}
 use Rattle.palm_leaf.specs.declared.leaf_work.NewLeaf.{NewLeaf}
 
@@ -65,7 +65,7 @@ one_made rows i rest behind made leaf size less sized part is low far =
     let here : behind ≡ drop (piece_size MOST_LEAF_ROWS t i) rest = is ∙ ap (λ n. drop n rest) sized in
     let next = take (piece_size MOST_LEAF_ROWS t i) rest in
     let same : ◌≡◌ {A = ℕ × List Row} (leaf.low, leaf.leaf) (first_low row_key next, next) =
-        ap (λ (l : ℕ). (l, leaf.leaf)) (low ∙ ap (first_low row_key) own) ∙ ap (λ (p : List Row). (first_low row_key next, p)) own in
+    ap (λ (l : ℕ). (l, leaf.leaf)) (low ∙ ap (first_low row_key) own) ∙ ap (λ (p : List Row). (first_low row_key next, p)) own in
     rw here record {
       whole =
           ap (λ (ls : List (ℕ × List Row)). ls ++ left) (map-append low_and_rows made (leaf ∷ []))
@@ -92,6 +92,6 @@ all_made rows i rest made some all far low =
     let t = length rows in
     let none : leaves_over (pieces_left MOST_LEAF_ROWS t i rest) ≡ [] = ap leaves_over (left_last MOST_LEAF_ROWS t i rest all) in
     let later : map low_and_rows made ≡ leaves_over (pieces_left MOST_LEAF_ROWS t 1 (drop (first_size rows) rows)) =
-        sym (append-nil (map low_and_rows made)) ∙ ap (λ (ls : List (ℕ × List Row)). map low_and_rows made ++ ls) (sym none) ∙ far.whole in
+    sym (append-nil (map low_and_rows made)) ∙ ap (λ (ls : List (ℕ × List Row)). map low_and_rows made ++ ls) (sym none) ∙ far.whole in
     ap (λ (ls : List (ℕ × List Row)). (low, take (first_size rows) rows) ∷ ls) later
     ∙ ap (with_lows row_key (λ part. part) low) (sym (left_next MOST_LEAF_ROWS t 0 rows (some_pieces t some)) ∙ left_first MOST_LEAF_ROWS rows)

@@ -1,30 +1,23 @@
 -- After the leaves have become their ends the changes stand for the pass.
-use Rattle.std.proofs.Common.{◌≡◌, ℕ, zero, suc, ◌≤◌, Bool, true, false, cond, List, [], ◌∷◌, ◌++◌, length, map, None, Some, refl, sym, ap, ◌∙◌, append_assoc, subst, arith}
+use Rattle.std.proofs.Common.{◌≡◌, ℕ, zero, Bool, true, false, cond, List, [], ◌∷◌, ◌++◌, length, map, refl, sym, ap, ◌∙◌, append_assoc, subst, arith}
 use Rattle.std.specs.Prelude.{Option}
 use Rattle.std.specs.List.{flat_map, filter, AllByRecursion}
 use Rattle.std.specs.List.Sorted.{IsPermutation}
 use Rattle.std.proofs.lemmas.List.{append-nil}
 use Rattle.std.proofs.lemmas.List.Sorted.{IsPermutation-refl}
-use Rattle.palm_base.specs.Table.{after_all}
-use Rattle.palm_base.specs.Pass.{Outcome, pass, leaf_outcome, leaves_of, is_small}
-use Rattle.palm_base.specs.declared.bounds.TheConstants.{LEAST_LEAF_ROWS, MOST_LEAF_ROWS}
+use Rattle.palm_base.specs.Pass.{Outcome}
 use Rattle.palm_base.specs.declared.row.Row.{Row}
-use Rattle.palm_base.specs.Cut.{cut}
-use Rattle.palm_base.proofs.CutParts.{large}
-use Rattle.palm_base.proofs.Cuts.{few_are_one_piece}
 use Rattle.palm_node.specs.declared.id.NodeId.{NodeId}
 use Rattle.palm_node.specs.declared.id.Piece.{Piece}
 use Rattle.palm_node.specs.declared.node.Node.{Node}
 use Rattle.palm_node.specs.declared.node.Node.TheVariants.{Leaf}
 use Rattle.palm_node.specs.declared.change.Change.{Change}
-use Rattle.palm_node.specs.declared.change.Changes.{Changes}
-use Rattle.palm_arena.specs.Cells.{Cell, found_at, Owns, SameCells, Turns}
+use Rattle.palm_arena.specs.Cells.{Cell, found_at, Owns, SameCells}
 use Rattle.palm_arena.specs.Placed.{Body, Placed, values, cells_of, cells_under, bare}
 use Rattle.palm_arena.specs.Sites.{Site, raised, sites_at, cells_above, outcome_at}
-use Rattle.palm_arena.specs.Standing.{Result, is_hit, StandsForItself, IsRight, loose_of, change_of, kept_cells, kept_rows, removed_of, Stands}
+use Rattle.palm_arena.specs.Standing.{Result, is_hit, StandsForItself, IsRight, loose_of, change_of, Stands}
 use Rattle.palm_arena.proofs.CellLists.{owned_same, same_append, same_trans, same_sym, same_eq, same_pass}
 use Rattle.palm_arena.proofs.ListParts.{same_parted, same_each, flat_each, flat_flat, flat_map', map_map, map_all, all_map, all_each, all_both}
-use Rattle.palm_route.specs.Edits.{edits_of}
 use Rattle.palm_route.specs.declared.part.Part.{Part}
 use Rattle.palm_leaf.specs.Ends.{LeafEnd, LeavesEnd, pieces_at, leaf_cells, change_at, changes_at, cells_at, Fit}
 use Rattle.palm_leaf.specs.Loads.{LeafLoad}
@@ -173,6 +166,7 @@ turns_changed touched d (t ∷ turns) all = rw all.0.hit (by (is_worked t) refl 
   where
     later : List (Result zero)
     later = filter (is_hit touched zero) (map (turn_result d) turns)
+
     by : (b : Bool) → is_worked t ≡ b → flat_map (turn_changes d) turns ≡ map (change_of zero) later
         → cond b (change_at t.ids (end_site d t.load.site) ∷ []) [] ++ flat_map (turn_changes d) turns ≡ map (change_of zero) (cond b (turn_result d t ∷ later) later)
     by true e rest =
@@ -180,7 +174,7 @@ turns_changed touched d (t ∷ turns) all = rw all.0.hit (by (is_worked t) refl 
         let same = (site.low, site.place) ∷ [] in
         let new = with_ids t.ids (out d site).pieces in
         let one : change_at t.ids (end_site d site) ≡ change_of zero (turn_result d t) =
-            ap (λ (ps : List Piece). let change : Change = record { node = site.place.0; path = site.path; pieces = ps } in change) (pieces_bare t.ids (out d site).pieces ∙ ap (λ (b : Bool). bare (cond b new same)) (sym e)) in
+        ap (λ (ps : List Piece). let change : Change = record { node = site.place.0; path = site.path; pieces = ps } in change) (pieces_bare t.ids (out d site).pieces ∙ ap (λ (b : Bool). bare (cond b new same)) (sym e)) in
         ap (λ (c : Change). c ∷ flat_map (turn_changes d) turns) one ∙ ap (λ (cs : List Change). change_of zero (turn_result d t) ∷ cs) rest
     by false e rest = rest
 
@@ -215,10 +209,13 @@ leaves_stand d root touched rest old new loads changes loose sites stills hit ow
   where
     s : Spread d loads ended.ids
     s = spread d loads ended.ids ended.fit
+
     turns : List LeafTurn
     turns = s.turns
+
     of_loads : (P : LeafLoad → Type 0) → AllByRecursion P loads → AllByRecursion (λ (t : LeafTurn). P t.load) turns
     of_loads P all = map_all P (λ (t : LeafTurn). t.load) turns (subst (AllByRecursion P) (sym s.loads-are) all)
+
     are : AllByRecursion (IsTurn touched d) turns
     are =
         let Fits : LeafTurn → Type 0 = λ t. is_worked t ≡ true → length t.ids ≡ length (out d t.load.site).pieces in
@@ -227,49 +224,63 @@ leaves_stand d root touched rest old new loads changes loose sites stills hit ow
         all_each (λ (t : LeafTurn). (Fits t × Still t) × Hit t) (IsTurn touched d) (λ t three. record { fits = three.0.0; still = three.0.1; hit = three.1 }) turns
         (all_both (λ (t : LeafTurn). Fits t × Still t) Hit turns (all_both Fits Still turns s.fits (of_loads (λ load. has_parts load.parts ≡ false → out d load.site ≡ record { pieces = (load.site.low, load.site.place.1) ∷ []; loose = [] }) stills))
         (of_loads (λ load. touched load.site.place.0 ≡ has_parts load.parts) hit))
+
     loosed : loose ++ [] ≡ flat_map (loose_of zero d) (map (turn_result d) turns)
     loosed =
         let left : LeafLoad → List Row = λ load. cond (has_parts load.parts) (out d load.site).loose [] in
         append-nil loose ∙ ended.loose-are ∙ loose_of_ends d loads ∙ ap (flat_map left) (sym s.loads-are) ∙ flat_map' (λ (t : LeafTurn). t.load) left turns
         ∙ flat_each (IsTurn touched d) (λ (t : LeafTurn). left t.load) (λ t. loose_of zero d (turn_result d t)) (turn_loosed touched d) turns are ∙ sym (flat_map' (turn_result d) (loose_of zero d) turns)
+
     hs : List Cell
     hs = cells_above d zero root
+
     before : List Cell
     before = flat_map turn_before turns
+
     stays : List Cell
     stays = flat_map turn_stays turns
+
     after : List Cell
     after = flat_map (turn_after d) turns
+
     under : List Cell
     under = cells_under zero (flat_map (λ (result : Result zero). result.pieces) (map (turn_result d) turns))
+
     leaves : List Cell
     leaves = map load_cell loads
+
     single : (ts : List LeafTurn) → map load_cell (map (λ (t : LeafTurn). t.load) ts) ≡ flat_map (λ (t : LeafTurn). load_cell t.load ∷ []) ts
     single [] = refl
     single (t ∷ ts) = ap (λ (cs : List Cell). load_cell t.load ∷ cs) (single ts)
+
     parted : SameCells leaves (before ++ stays)
     parted =
         same_trans leaves (flat_map (λ (t : LeafTurn). load_cell t.load ∷ []) turns) (before ++ stays) (same_eq leaves (flat_map (λ (t : LeafTurn). load_cell t.load ∷ []) turns) (ap (map load_cell) (sym s.loads-are) ∙ single turns))
         (same_trans (flat_map (λ (t : LeafTurn). load_cell t.load ∷ []) turns) (flat_map (λ t. turn_before t ++ turn_stays t) turns) (before ++ stays)
         (same_each (IsTurn touched d) (λ (t : LeafTurn). load_cell t.load ∷ []) (λ t. turn_before t ++ turn_stays t) (λ t is. turn_start t) turns are) (same_parted turn_before turn_stays turns))
+
     start : Owns old (before ++ (stays ++ (hs ++ rest)))
     start =
         owned_same old (leaves ++ (hs ++ rest)) (before ++ (stays ++ (hs ++ rest))) owned
         (same_trans (leaves ++ (hs ++ rest)) ((before ++ stays) ++ (hs ++ rest)) (before ++ (stays ++ (hs ++ rest))) (same_append leaves (before ++ stays) (hs ++ rest) (hs ++ rest) parted (λ i. refl))
         (same_eq ((before ++ stays) ++ (hs ++ rest)) (before ++ (stays ++ (hs ++ rest))) (append_assoc before stays (hs ++ rest))))
+
     touched_cells : flat_map (λ (load : LeafLoad). cond (has_parts load.parts) (load_cell load ∷ []) []) loads ≡ before
     touched_cells =
         ap (flat_map (λ (load : LeafLoad). cond (has_parts load.parts) (load_cell load ∷ []) [])) (sym s.loads-are) ∙ flat_map' (λ (t : LeafTurn). t.load) (λ (load : LeafLoad). cond (has_parts load.parts) (load_cell load ∷ []) []) turns
+
     now : Owns new (after ++ (stays ++ (hs ++ rest)))
     now =
         subst (λ (cs : List Cell). Owns new (cs ++ (stays ++ (hs ++ rest)))) s.cells-are
         (ended.turned (stays ++ (hs ++ rest)) (subst (λ (cs : List Cell). Owns old (cs ++ (stays ++ (hs ++ rest)))) (sym touched_cells) start))
+
     done : SameCells (after ++ stays) under
     done =
         same_trans (after ++ stays) (flat_map (λ t. turn_after d t ++ turn_stays t) turns) under (same_sym (flat_map (λ t. turn_after d t ++ turn_stays t) turns) (after ++ stays) (same_parted (turn_after d) turn_stays turns))
         (same_trans (flat_map (λ t. turn_after d t ++ turn_stays t) turns) (flat_map (λ t. cells_under zero (turn_pieces d t)) turns) under
         (same_each (IsTurn touched d) (λ t. turn_after d t ++ turn_stays t) (λ t. cells_under zero (turn_pieces d t)) (λ t is. turn_end d t) turns are)
         (same_eq (flat_map (λ t. cells_under zero (turn_pieces d t)) turns) under (sym (flat_flat (turn_pieces d) (λ (child : ℕ × Placed zero). cells_of zero child.1) turns) ∙ ap (cells_under zero) (sym (flat_map' (turn_result d) (λ r. r.pieces) turns)))))
+
     finish : Owns new (hs ++ (cells_under zero (flat_map (λ (result : Result zero). result.pieces) (map (turn_result d) turns)) ++ ([] ++ rest)))
     finish =
         owned_same new (after ++ (stays ++ (hs ++ rest))) (hs ++ (under ++ rest)) now

@@ -1,8 +1,8 @@
 -- Lent leaves are run, given back and settled, one beside another.
-use Rattle.std.proofs.Common.{◌≡◌, ℕ, zero, suc, ◌+◌, ◌-◌, ◌≤◌, ◌*◌, true, false, List, [], ◌∷◌, ◌++◌, length, map, None, Some, refl, sym, ap, ◌∙◌, append_assoc, subst, arith, vec_len, Bool}
+use Rattle.std.proofs.Common.{◌≡◌, ℕ, zero, suc, ◌+◌, ◌-◌, ◌≤◌, true, false, List, [], ◌∷◌, ◌++◌, length, map, None, Some, refl, sym, ap, ◌∙◌, subst, arith, Bool}
 use Rattle.std.specs.Prelude.{Option, reverse, sum_by}
 use Rattle.std.specs.List.{flat_map, AllByRecursion, AllZip}
-use Rattle.std.proofs.lemmas.List.{append-nil, reverse-append, reverse-reverse}
+use Rattle.std.proofs.lemmas.List.{reverse-append, reverse-reverse}
 use Rattle.std.proofs.lemmas.List.Sums.{sum_by-append}
 use mathlib.Core.List.{map-append}
 use Rattle.palm_base.specs.declared.row.Row.{Row}
@@ -27,9 +27,8 @@ use Rattle.palm_base.specs.Table.{after_all}
 use Rattle.palm_base.specs.Pass.{Outcome}
 use Rattle.palm_leaf.specs.declared.settling.Gathered.{Gathered}
 use Rattle.palm_leaf.specs.Asked.{part_of}
-use Rattle.palm_leaf.specs.Worked.{leaf_left, parts_of_plan, IsReady, HasRun, IsWorked, answers_of_plan, outcome_of_plan, outcome_shown, low_and_rows}
+use Rattle.palm_leaf.specs.Worked.{leaf_left, parts_of_plan, IsReady, HasRun, outcome_of_plan, outcome_shown, low_and_rows}
 use Rattle.palm_leaf.specs.declared.leaf_work.LeafWork.{LeafWork}
-use Rattle.palm_leaf.specs.declared.leaf_work.LeafPlan.{LeafPlan}
 use Rattle.palm_leaf.specs.declared.lending.LeafDone.{LeafDone}
 
 -- ---- running
@@ -94,9 +93,10 @@ same_back (cell ∷ cells) =
 -- A map has each of the cells that it owns.
 pub all_held : (nodes : NodeId → Option Node) (cells others : List Cell) → Owns nodes (cells ++ others) → AllByRecursion (λ cell. nodes cell.0 ≡ Some cell.1) cells
 all_held nodes [] others owned = tt
-all_held nodes (cell ∷ cells) others owned =
-    ((owned_front nodes cell.0 cell.1 (cells ++ others) owned).0,
-    all_held nodes cells (cell ∷ others) (owned_same nodes ((cell ∷ []) ++ (cells ++ others)) (cells ++ (cell ∷ others)) owned (same_pass (cell ∷ []) cells others)))
+all_held nodes (cell ∷ cells) others owned = (
+  (owned_front nodes cell.0 cell.1 (cells ++ others) owned).0,
+  all_held nodes cells (cell ∷ others) (owned_same nodes ((cell ∷ []) ++ (cells ++ others)) (cells ++ (cell ∷ others)) owned (same_pass (cell ∷ []) cells others)),
+)
 
 -- A leaf that was given back stands as its lease had it.
 done_are_leases : (start nodes : NodeId → Option Node) (least : ℕ) (groups : List Group) (works : List LeafWork) → Matched (IsEnded start least) groups works → AllByRecursion (λ cell. nodes cell.0 ≡ Some cell.1) (map lease_cell works)
@@ -119,9 +119,9 @@ ends_are start nodes least (group ∷ groups) (work ∷ works) all held =
     let rows : rows_at nodes work.lease.id ≡ rows_in_node (Some work.lease.node) = ap rows_in_node held.0 in
     let outcome = ap (λ (rows : List Row). outcome_of_plan rows work.plan) rows ∙ all.0.outcome in
     let one : end_of_done nodes (done_of work) ≡ end_of start least group =
-        ap (λ (id : NodeId). let e : LeafEnd = record { node = id; path = work.plan.path; outcome = outcome_of_plan (rows_at nodes work.lease.id) work.plan } in e) all.0.id
-        ∙ ap (λ (path : List (NodeId × ℕ)). let e : LeafEnd = record { node = group.leaf; path = path; outcome = outcome_of_plan (rows_at nodes work.lease.id) work.plan } in e) all.0.path
-        ∙ ap (λ (o : _). let e : LeafEnd = record { node = group.leaf; path = group.path; outcome = o } in e) outcome in
+    ap (λ (id : NodeId). let e : LeafEnd = record { node = id; path = work.plan.path; outcome = outcome_of_plan (rows_at nodes work.lease.id) work.plan } in e) all.0.id
+    ∙ ap (λ (path : List (NodeId × ℕ)). let e : LeafEnd = record { node = group.leaf; path = path; outcome = outcome_of_plan (rows_at nodes work.lease.id) work.plan } in e) all.0.path
+    ∙ ap (λ (o : _). let e : LeafEnd = record { node = group.leaf; path = group.path; outcome = o } in e) outcome in
     ap (λ (end : LeafEnd). end ∷ map (end_of_done nodes) (map done_of works)) one ∙ ap (λ (ends : List LeafEnd). end_of start least group ∷ ends) (ends_are start nodes least groups works all.1 held.1)
 
 pub answers_are : (start : NodeId → Option Node) (least : ℕ) (groups : List Group) (works : List LeafWork) → Matched (IsEnded start least) groups works
@@ -188,9 +188,16 @@ pieces_few start least (group ∷ groups) (work ∷ works) (i ∷ ids) all fit =
     let plan = work.plan in
     let shown = shown_few plan.kept plan.low (rows_in_node (Some work.lease.node)) (map low_and_rows plan.later.items) plan.rows.items in
     let own : length end.outcome.pieces - 1 ≤ length plan.later.items =
-        subst (λ (o : Outcome zero). length o.pieces - 1 ≤ length plan.later.items) all.0.outcome (omega (arith, shown, length-map' low_and_rows plan.later.items)) in
-    omega (arith, own, all.0.few, pieces_count i end.outcome.pieces fit.0, pieces_few start least groups works ids all.1 fit.1, sum_first (λ (g : Group). length g.parts) group groups,
-    sum_first (λ (change : Change). length change.pieces - 1) (change_at i end) (changes_at ids (map (end_of start least) groups)))
+    subst (λ (o : Outcome zero). length o.pieces - 1 ≤ length plan.later.items) all.0.outcome (omega (arith, shown, length-map' low_and_rows plan.later.items)) in
+    omega (
+      arith,
+      own,
+      all.0.few,
+      pieces_count i end.outcome.pieces fit.0,
+      pieces_few start least groups works ids all.1 fit.1,
+      sum_first (λ (g : Group). length g.parts) group groups,
+      sum_first (λ (change : Change). length change.pieces - 1) (change_at i end) (changes_at ids (map (end_of start least) groups)),
+    )
 
 -- ---- all together
 
@@ -223,11 +230,11 @@ leaves_done start lent back new least groups works done others gathered some all
     let as_ends : map (end_of_done back) (reverse done) ≡ map (end_of start least) groups = ap (map (end_of_done back)) order ∙ ends_are start back least groups works all held in
     let as_cells : done_cells back (reverse done) ≡ cells = ap (done_cells back) order ∙ done_are_leases start back least groups works all held in
     let far : LeavesEnd back new cells (map (end_of start least) groups) gathered.nodes gathered.loose.items =
-        subst (λ (es : List LeafEnd). LeavesEnd back new cells es gathered.nodes gathered.loose.items) as_ends
-        (subst (λ (cs : List Cell). LeavesEnd back new cs (map (end_of_done back) (reverse done)) gathered.nodes gathered.loose.items) as_cells ends) in
+    subst (λ (es : List LeafEnd). LeavesEnd back new cells es gathered.nodes gathered.loose.items) as_ends
+    (subst (λ (cs : List Cell). LeavesEnd back new cs (map (end_of_done back) (reverse done)) gathered.nodes gathered.loose.items) as_cells ends) in
     let given : Turns lent back [] cells =
-        turns_same lent back [] [] (map lease_cell (reverse works)) cells (λ i. refl)
-        (same_trans (map lease_cell (reverse works)) (reverse cells) cells (same_eq (map lease_cell (reverse works)) (reverse cells) (map_back lease_cell works)) (same_back cells)) then in
+    turns_same lent back [] [] (map lease_cell (reverse works)) cells (λ i. refl)
+    (same_trans (map lease_cell (reverse works)) (reverse cells) cells (same_eq (map lease_cell (reverse works)) (reverse cells) (map_back lease_cell works)) (same_back cells)) then in
     record {
       ends = record {
         ids = far.ids;

@@ -3,16 +3,13 @@ use Rattle.std.proofs.Common.{◌≡◌, ℕ, List, [], ◌∷◌, ◌++◌, map
 use Rattle.std.specs.Prelude.{Option, reverse}
 use Rattle.std.proofs.lemmas.List.{append-nil, reverse-append, reverse-reverse}
 use mathlib.Core.List.{map-append}
-use Rattle.palm_base.specs.declared.row.Row.{Row}
-use Rattle.palm_node.specs.declared.id.NodeId.{NodeId}
-use Rattle.palm_node.specs.declared.node.Node.{Node}
 use Rattle.palm_node.specs.declared.node.Node.TheVariants.{Leaf}
 use Rattle.palm_arena.specs.declared.place.Place.{Place}
 use Rattle.palm_arena.specs.declared.place.Place.TheVariants.{Lent, Holds}
 use Rattle.palm_arena.specs.ArenaState.{node_at, with_place, IsLent, NoneLent}
 use Rattle.palm_arena.specs.Cells.{Cell, Owns, Turns}
 use Rattle.palm_arena.specs.Reads.{map_of}
-use Rattle.palm_arena.proofs.CellLists.{owned_front, owned_same, same_swap}
+use Rattle.palm_arena.proofs.CellLists.{owned_front, same_swap}
 use Rattle.palm_arena.proofs.Turning.{lend_turns, put_turns, lent_none, turns_then, turns_before, turns_same}
 use Rattle.palm_route.specs.declared.part.Group.{Group}
 use Rattle.palm_leaf.specs.Answers.{rows_at, rows_in_node}
@@ -172,7 +169,8 @@ pub all_given : (start places : List Place) (all left : List (Option LeafWork)) 
     → (done ≡ map done_of (reverse (present all))) × Turns (map_of start) (map_of places) [] (map lease_cell (reverse (present all))) × LentAre places []
 all_given start places all left done none far =
     let empty : present left ≡ [] = ap present none in
-    let back : far.gone ≡ reverse (present all) = sym (ap reverse (sym far.whole ∙ ap (λ ws. ws ++ reverse far.gone) empty) ∙ reverse-reverse far.gone) in
-    (far.done-are ∙ ap (map done_of) back,
-    subst (λ ws. Turns (map_of start) (map_of places) [] (map lease_cell ws)) back far.turned,
-    subst (λ ws. LentAre places (lease_ids ws)) empty far.lent)
+    let back : far.gone ≡ reverse (present all) = sym (ap reverse (sym far.whole ∙ ap (λ ws. ws ++ reverse far.gone) empty) ∙ reverse-reverse far.gone) in (
+      far.done-are ∙ ap (map done_of) back,
+      subst (λ ws. Turns (map_of start) (map_of places) [] (map lease_cell ws)) back far.turned,
+      subst (λ ws. LentAre places (lease_ids ws)) empty far.lent,
+    )

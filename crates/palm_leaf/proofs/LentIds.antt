@@ -1,5 +1,5 @@
 -- Which ids are lent, as one more is lent and one is given back.
-use Rattle.std.proofs.Common.{◌≡◌, ◌≢◌, List, [], ◌∷◌, ◌++◌, None, Some, refl, sym, ap, ◌∙◌, ◌⊎◌, inl, inr, subst}
+use Rattle.std.proofs.Common.{◌≡◌, ◌≢◌, List, [], ◌∷◌, ◌++◌, None, Some, sym, ap, ◌∙◌, ◌⊎◌, inl, inr}
 use mathlib.Core.Logic.{dite}
 use native.Mathlib.Decide.{ℕ_discrete}
 use Rattle.std.specs.List.{AllByRecursion}
@@ -7,7 +7,7 @@ use Rattle.palm_base.proofs.Pieces.{every_split}
 use Rattle.palm_node.specs.declared.id.NodeId.{NodeId}
 use Rattle.palm_node.specs.declared.node.Node.{Node}
 use Rattle.palm_arena.specs.declared.place.Place.{Place}
-use Rattle.palm_arena.specs.declared.place.Place.TheVariants.{Empty, Lent, Holds}
+use Rattle.palm_arena.specs.declared.place.Place.TheVariants.{Lent, Holds}
 use Rattle.palm_arena.specs.ArenaState.{place_at, node_at, node_in, with_place, IsLent, NoneLent}
 use Rattle.palm_arena.proofs.Keeping.{same_id}
 use Rattle.palm_arena.proofs.Standing.{put_stands, others_stay}

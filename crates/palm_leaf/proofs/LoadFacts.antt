@@ -1,37 +1,26 @@
 -- The leaves of a pass and their parts: which ids are touched, and where their cells stand.
-use Rattle.std.proofs.Common.{◌≡◌, ◌≢◌, ℕ, zero, suc, ◌+◌, ◌≤◌, Bool, true, false, cond, ◌||◌, List, [], ◌∷◌, ◌++◌, length, map, None, Some, refl, sym, ap, ◌∙◌, append_assoc, subst, arith, eq-eqb}
-use Rattle.std.specs.Prelude.{Option, ◌==◌}
-use Rattle.std.specs.List.{flat_map, filter, AllByRecursion, list_any}
+use Rattle.std.proofs.Common.{◌≡◌, ℕ, zero, suc, ◌+◌, Bool, true, false, List, [], ◌∷◌, ◌++◌, map, refl, sym, ap, ◌∙◌, append_assoc, subst, arith, eq-eqb}
+use Rattle.std.specs.Prelude.{Option}
+use Rattle.std.specs.List.{flat_map, filter, AllByRecursion}
 use Rattle.std.proofs.lemmas.List.{append-nil}
 use Rattle.std.proofs.lemmas.Bool.{ne_eqb}
-use mathlib.Core.List.{map-append}
-use Rattle.palm_base.specs.Table.{after_all}
-use Rattle.palm_base.specs.Tree.{Subtree}
-use Rattle.palm_base.specs.Pass.{Outcome, pass, leaf_outcome, leaves_of, is_small}
 use Rattle.palm_base.specs.Lawful.{HasFromTo, Sound, InOrder, Root}
 use Rattle.palm_base.specs.declared.bounds.TheConstants.{LEAST_LEAF_ROWS, MOST_LEAF_ROWS}
-use Rattle.palm_base.specs.declared.row.Row.{Row}
 use Rattle.palm_base.specs.declared.call.Call.{Call}
 use Rattle.palm_base.specs.Pass.{goes_right}
-use Rattle.palm_base.proofs.CutParts.{large}
-use Rattle.palm_base.proofs.Cuts.{few_are_one_piece}
 use Rattle.palm_node.specs.declared.id.NodeId.{NodeId}
 use Rattle.palm_node.specs.declared.node.Node.{Node}
 use Rattle.palm_node.specs.declared.node.Node.TheVariants.{Leaf}
 use Rattle.palm_arena.specs.Cells.{Cell, Found, Nothing, One, Several, both, found_at, found_if, Owns, SameCells}
 use Rattle.palm_arena.specs.Reads.{same_place}
 use Rattle.palm_arena.specs.Placed.{Placed, value_in, values, cells_of}
-use Rattle.palm_arena.specs.Sites.{Site, raised, sites_at, sites_below, sites_of_children, cells_above, outcome_at}
-use Rattle.palm_arena.specs.Passes.{Pass, is_among, root_site, leaf_sites}
-use Rattle.palm_arena.proofs.CellLists.{owned_front, owned_same, same_append, same_swap, same_trans, same_eq, same_pass}
+use Rattle.palm_arena.specs.Sites.{Site, raised, sites_at, sites_below, sites_of_children, cells_above}
+use Rattle.palm_arena.specs.Passes.{Pass, is_among, leaf_sites}
+use Rattle.palm_arena.proofs.CellLists.{owned_front, owned_same, same_append, same_trans, same_eq, same_pass}
 use Rattle.palm_arena.proofs.LevelCells.{level_cells}
-use Rattle.palm_arena.proofs.ListParts.{flat_flat, flat_map', map_map, all_map, map_all, all_each, all_both, flat_all}
-use Rattle.palm_route.specs.Edits.{edits_of}
-use Rattle.palm_route.specs.Groups.{group_at}
+use Rattle.palm_arena.proofs.ListParts.{flat_flat, all_each, all_both, flat_all}
 use Rattle.palm_route.specs.declared.part.Part.{Part}
-use Rattle.palm_route.specs.declared.part.Group.{Group}
-use Rattle.palm_leaf.specs.Loads.{LeafLoad, IsLoad, load_group}
-use Rattle.palm_leaf.specs.Worked.{leaf_left}
+use Rattle.palm_leaf.specs.Loads.{LeafLoad, load_group}
 
 -- ---- levels
 
@@ -76,8 +65,8 @@ loads_owned d root rest nodes loads sites owned =
     let above = cells_above d zero root in
     let leaves = map load_cell loads in
     let level : SameCells (cells_of (raised zero d) root.place) (above ++ leaves) =
-        same_trans (cells_of (raised zero d) root.place) (above ++ flat_map (λ site. cells_of zero site.place) (sites_at d zero root)) (above ++ leaves) (level_cells d zero root)
-        (same_eq (above ++ flat_map (λ site. cells_of zero site.place) (sites_at d zero root)) (above ++ leaves) (ap (λ (cs : List Cell). above ++ cs) (ap (flat_map (λ site. cells_of zero site.place)) (sym sites) ∙ cells_of_loads loads))) in
+    same_trans (cells_of (raised zero d) root.place) (above ++ flat_map (λ site. cells_of zero site.place) (sites_at d zero root)) (above ++ leaves) (level_cells d zero root)
+    (same_eq (above ++ flat_map (λ site. cells_of zero site.place) (sites_at d zero root)) (above ++ leaves) (ap (λ (cs : List Cell). above ++ cs) (ap (flat_map (λ site. cells_of zero site.place)) (sym sites) ∙ cells_of_loads loads))) in
     owned_same nodes (cells_of (raised zero d) root.place ++ rest) (leaves ++ (above ++ rest)) owned
     (same_trans (cells_of (raised zero d) root.place ++ rest) ((above ++ leaves) ++ rest) (leaves ++ (above ++ rest)) (same_append (cells_of (raised zero d) root.place) (above ++ leaves) rest rest level (λ i. refl))
     (same_trans ((above ++ leaves) ++ rest) (above ++ (leaves ++ rest)) (leaves ++ (above ++ rest)) (same_eq ((above ++ leaves) ++ rest) (above ++ (leaves ++ rest)) (append_assoc above leaves rest)) (same_pass above leaves rest)))
@@ -111,9 +100,10 @@ Distinct (load ∷ loads) = AllByRecursion (λ later. same_place later.site.plac
 distinct : (nodes : NodeId → Option Node) (loads : List LeafLoad) (others : List Cell) → Owns nodes (map load_cell loads ++ others) → Distinct loads
 distinct nodes [] others owned = tt
 distinct nodes (load ∷ loads) others owned =
-    let cell = load_cell load in
-    (all_apart load.site.place.0 loads others (owned_front nodes cell.0 cell.1 (map load_cell loads ++ others) owned).1,
-    distinct nodes loads (cell ∷ others) (owned_same nodes ((cell ∷ []) ++ (map load_cell loads ++ others)) (map load_cell loads ++ (cell ∷ others)) owned (same_pass (cell ∷ []) (map load_cell loads) others)))
+    let cell = load_cell load in (
+      all_apart load.site.place.0 loads others (owned_front nodes cell.0 cell.1 (map load_cell loads ++ others) owned).1,
+      distinct nodes loads (cell ∷ others) (owned_same nodes ((cell ∷ []) ++ (map load_cell loads ++ others)) (map load_cell loads ++ (cell ∷ others)) owned (same_pass (cell ∷ []) (map load_cell loads) others)),
+    )
 
 same_swapped : (id other : NodeId) → same_place id other ≡ false → same_place other id ≡ false
 same_swapped id other apart = ne_eqb other.place id.place (λ e. let same = eq-eqb id.place other.place (sym e) in absurd cc)
@@ -146,11 +136,12 @@ hit_later load later loads apart hit = by load.site load.low load.parts apart
 
 all_hit : (loads : List LeafLoad) → Distinct loads → AllByRecursion (IsHit (touched_ids loads)) loads
 all_hit [] all = tt
-all_hit (load ∷ loads) all =
-    (hit_own load loads (not_among load.site.place.0 loads all.0),
-    all_each (λ later. (same_place later.site.place.0 load.site.place.0 ≡ false) × IsHit (touched_ids loads) later) (IsHit (touched_ids (load ∷ loads)))
-    (λ later both. hit_later load later loads (same_swapped later.site.place.0 load.site.place.0 both.0) both.1) loads
-    (all_both (λ later. same_place later.site.place.0 load.site.place.0 ≡ false) (IsHit (touched_ids loads)) loads all.0 (all_hit loads all.1)))
+all_hit (load ∷ loads) all = (
+  hit_own load loads (not_among load.site.place.0 loads all.0),
+  all_each (λ later. (same_place later.site.place.0 load.site.place.0 ≡ false) × IsHit (touched_ids loads) later) (IsHit (touched_ids (load ∷ loads)))
+      (λ later both. hit_later load later loads (same_swapped later.site.place.0 load.site.place.0 both.0) both.1) loads
+      (all_both (λ later. same_place later.site.place.0 load.site.place.0 ≡ false) (IsHit (touched_ids loads)) loads all.0 (all_hit loads all.1)),
+)
 
 pub hits : (nodes : NodeId → Option Node) (loads : List LeafLoad) (others : List Cell) → Owns nodes (map load_cell loads ++ others) → AllByRecursion (IsHit (map (λ group. group.leaf) (flat_map load_group loads))) loads
 hits nodes loads others owned = all_hit loads (distinct nodes loads others owned)

@@ -1,28 +1,24 @@
 -- Each leaf of a pass has the parts of its group: parts go down a tree as its edits do.
-use Rattle.std.proofs.Common.{◌≡◌, ℕ, zero, suc, ◌<◌, ◌≤◌, ◌-◌, Bool, true, false, cond, ltb, leb, eqb, List, [], ◌∷◌, ◌++◌, length, map, refl, sym, ap, ◌∙◌, append_assoc, subst, arith, Some, None}
+use Rattle.std.proofs.Common.{◌≡◌, ℕ, zero, suc, ◌<◌, ◌≤◌, Bool, true, false, cond, ltb, leb, eqb, List, [], ◌∷◌, ◌++◌, length, map, refl, sym, ap, ◌∙◌, append_assoc, subst, arith, Some}
 use Rattle.std.specs.Prelude.{Option}
 use Rattle.std.specs.List.{filter, flat_map, AllByRecursion}
 use Rattle.std.proofs.lemmas.Bool.{ltb-true, leb-true, lt-ltb, le-leb, ne_eqb}
 use Rattle.std.proofs.lemmas.List.{append-nil}
 use Rattle.std.proofs.lemmas.List.Concat.{flat_map-append}
 use mathlib.Core.List.{map-append}
-use Rattle.palm_base.specs.Tree.{Subtree}
 use Rattle.palm_base.specs.Pass.{edit_key, goes_left, goes_right}
 use Rattle.palm_base.specs.Lawful.{next_low, Sound, InOrder, Root}
 use Rattle.palm_base.proofs.SoundNodes.{in_order_proper}
 use Rattle.palm_base.specs.declared.bounds.TheConstants.{LEAST_CHILDREN}
 use Rattle.palm_base.specs.declared.call.Call.{Call}
-use Rattle.palm_base.specs.declared.call.Call.TheVariants as call
-use Rattle.palm_base.specs.Key.{key, digits_of}
-use Rattle.palm_node.specs.InnerNode.{InnerNode}
 use Rattle.palm_node.specs.declared.id.NodeId.{NodeId}
 use Rattle.palm_node.specs.declared.node.Node.{Node}
 use Rattle.palm_arena.specs.declared.shape.Shape.{Shape}
 use Rattle.palm_arena.specs.Reads.{inner_in}
-use Rattle.palm_arena.specs.Leaves.{LeafPlace, leaves_of_children, leaves_of_node, leaves_under, leaves_at}
+use Rattle.palm_arena.specs.Leaves.{LeafPlace, leaves_of_children, leaves_of_node, leaves_under}
 use Rattle.palm_arena.specs.Cells.{Cell, Owns}
-use Rattle.palm_arena.specs.Placed.{Placed, value_in, values, cells_of, cells_under, ids_of_children, lows_between, node_of}
-use Rattle.palm_arena.specs.Sites.{Site, sites_of_children, sites_below}
+use Rattle.palm_arena.specs.Placed.{Placed, value_in, values, cells_of, ids_of_children, lows_between, node_of}
+use Rattle.palm_arena.specs.Sites.{Site, sites_of_children}
 use Rattle.palm_arena.specs.Passes.{Pass, root_site, leaf_sites, Begins}
 use Rattle.palm_arena.proofs.CellLists.{owned_front, owned_same, same_swap}
 use Rattle.palm_arena.proofs.ListParts.{all_front, all_flat}
@@ -45,18 +41,22 @@ edits-filter t (part ∷ parts) keys = by (edits-filter t parts keys.1) (t part.
   where
     rest : List Part
     rest = filter (λ part. t part.key) parts
+
     left : List Call
     left = filter (λ edit. t (edit_key edit)) (edits_of parts)
+
     kept : (k : ℕ) (what : Ask) → GoesByKey k what → t k ≡ true → edit_before k what left ≡ filter (λ edit. t (edit_key edit)) (edit_before k what (edits_of parts))
     kept k (ask.Set rate) is e = rw (is.whole, e) refl
     kept k ask.Del is e = rw (is.whole, e) refl
     kept k ask.Look is e = refl
     kept k (ask.List from to limit) is e = refl
+
     gone : (k : ℕ) (what : Ask) → GoesByKey k what → t k ≡ false → left ≡ filter (λ edit. t (edit_key edit)) (edit_before k what (edits_of parts))
     gone k (ask.Set rate) is e = rw (is.whole, e) refl
     gone k ask.Del is e = rw (is.whole, e) refl
     gone k ask.Look is e = refl
     gone k (ask.List from to limit) is e = refl
+
     by : edits_of rest ≡ left → (b : Bool) → t part.key ≡ b → edits_of (cond b (part ∷ rest) rest) ≡ filter (λ edit. t (edit_key edit)) (edit_before part.key part.ask (edits_of parts))
     by ih true e = ap (edit_before part.key part.ask) ih ∙ kept part.key part.ask keys.0 e
     by ih false e = ih ∙ gone part.key part.ask keys.0 e
@@ -70,11 +70,11 @@ groups_join place [] next more parts below = refl
 groups_join place (second ∷ places) next more parts below =
     ap (λ gs. group_at place (filter (λ p. ltb p.key second.low) parts) ++ gs) (groups_join second places next more (filter (λ p. leb second.low p.key) parts) below.1)
     ∙ ap (λ gs. group_at place (filter (λ p. ltb p.key second.low) parts) ++ (groups_of (second ∷ places) gs ++ groups_of (next ∷ more) (filter (λ p. leb next.low p.key) (filter (λ p. leb second.low p.key) parts))))
-        (filter-swap (λ p. ltb p.key next.low) (λ p. leb second.low p.key) parts)
+    (filter-swap (λ p. ltb p.key next.low) (λ p. leb second.low p.key) parts)
     ∙ ap (λ gs. group_at place (filter (λ p. ltb p.key second.low) parts) ++ (groups_of (second ∷ places) (filter (λ p. leb second.low p.key) (filter (λ p. ltb p.key next.low) parts)) ++ groups_of (next ∷ more) gs))
-        (filter-wider (λ p. leb next.low p.key) (λ p. leb second.low p.key) parts (λ p e. le-leb second.low p.key (let h = leb-true next.low p.key e in let b = below.0 in omega arith)))
+    (filter-wider (λ p. leb next.low p.key) (λ p. leb second.low p.key) parts (λ p e. le-leb second.low p.key (let h = leb-true next.low p.key e in let b = below.0 in omega arith)))
     ∙ ap (λ gs. group_at place gs ++ (groups_of (second ∷ places) (filter (λ p. leb second.low p.key) (filter (λ p. ltb p.key next.low) parts)) ++ groups_of (next ∷ more) (filter (λ p. leb next.low p.key) parts)))
-        (sym (filter-wider (λ p. ltb p.key second.low) (λ p. ltb p.key next.low) parts (λ p e. lt-ltb p.key next.low (let h = ltb-true p.key second.low e in let b = below.0 in omega arith))))
+    (sym (filter-wider (λ p. ltb p.key second.low) (λ p. ltb p.key next.low) parts (λ p e. lt-ltb p.key next.low (let h = ltb-true p.key second.low e in let b = below.0 in omega arith))))
     ∙ sym (append_assoc (group_at place (filter (λ p. ltb p.key second.low) (filter (λ p. ltb p.key next.low) parts))) _ _)
 
 -- ---- the loads of a node's leaves
@@ -105,9 +105,9 @@ sites_loaded (suc n) site low parts = each site.path site.place.0 0 low site.pla
     each path id i low (child ∷ next ∷ children) edits parts ih =
         map-append (λ (load : LeafLoad). load.site) (loads_under n (record { path = path ++ (id, i) ∷ []; low = child.0; place = child.1; edits = filter (goes_left next.0) edits }) low (filter (λ p. ltb p.key next.0) parts)) _
         ∙ ap (λ sites. sites ++ map (λ load. load.site) (loads_of_children n (loads_under n) path id (suc i) next.0 (next ∷ children) (filter (goes_right next.0) edits) (filter (λ p. leb next.0 p.key) parts)))
-            (ih (record { path = path ++ (id, i) ∷ []; low = child.0; place = child.1; edits = filter (goes_left next.0) edits }) low (filter (λ p. ltb p.key next.0) parts))
+        (ih (record { path = path ++ (id, i) ∷ []; low = child.0; place = child.1; edits = filter (goes_left next.0) edits }) low (filter (λ p. ltb p.key next.0) parts))
         ∙ ap (λ sites. leaf_sites n (record { path = path ++ (id, i) ∷ []; low = child.0; place = child.1; edits = filter (goes_left next.0) edits }) ++ sites)
-            (each path id (suc i) next.0 (next ∷ children) (filter (goes_right next.0) edits) (filter (λ p. leb next.0 p.key) parts) ih)
+        (each path id (suc i) next.0 (next ∷ children) (filter (goes_right next.0) edits) (filter (λ p. leb next.0 p.key) parts) ih)
 
 -- ---- what a map holds
 

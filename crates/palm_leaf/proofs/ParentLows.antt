@@ -1,5 +1,5 @@
 -- The low that a leaf's parent has written, by the last step of the way to it.
-use Rattle.std.proofs.Common.{◌≡◌, ℕ, suc, ◌-◌, cond, List, [], ◌∷◌, length, Some, refl, sym, ap, arith, ◌∙◌}
+use Rattle.std.proofs.Common.{◌≡◌, ℕ, suc, ◌-◌, cond, List, [], ◌∷◌, length, Some, sym, ap, arith, ◌∙◌}
 use Rattle.std.specs.Prelude.{◌==◌, slice_get}
 use Rattle.palm_node.specs.declared.id.NodeId.{NodeId}
 use Rattle.palm_leaf.specs.Routed.{written_low}

@@ -1,5 +1,5 @@
 -- One leaf more is settled.
-use Rattle.std.proofs.Common.{◌≡◌, ℕ, List, [], ◌∷◌, ◌++◌, length, map, refl, sym, ap, ◌∙◌, append_assoc, subst, Some}
+use Rattle.std.proofs.Common.{◌≡◌, List, [], ◌∷◌, ◌++◌, length, map, refl, sym, ap, ◌∙◌, append_assoc, subst, Some}
 use Rattle.std.specs.Prelude.{Option, reverse}
 use Rattle.std.specs.List.{flat_map}
 use Rattle.std.proofs.lemmas.List.{append-nil, reverse-append}
@@ -89,9 +89,9 @@ next_done start places all left before done gathered others popped far owned =
     let held = cells_at far.ends.ids (map (end_of_done (map_of start)) far.front) in
     let cell = leaf_cell (map_of start) done.id in
     let whole : cells (reverse all) ++ others ≡ cells far.front ++ (cell ∷ rest) =
-        ap (λ (ds : List LeafDone). cells ds ++ others) (sym far.whole ∙ ap (λ (ds : List LeafDone). far.front ++ ds) (last_first left before done popped))
-        ∙ ap (λ (cs : List Cell). cs ++ others) (map-append (λ (d : LeafDone). leaf_cell (map_of start) d.id) far.front (done ∷ reverse left))
-        ∙ append_assoc (cells far.front) (cells (done ∷ reverse left)) others in
+    ap (λ (ds : List LeafDone). cells ds ++ others) (sym far.whole ∙ ap (λ (ds : List LeafDone). far.front ++ ds) (last_first left before done popped))
+    ∙ ap (λ (cs : List Cell). cs ++ others) (map-append (λ (d : LeafDone). leaf_cell (map_of start) d.id) far.front (done ∷ reverse left))
+    ∙ append_assoc (cells far.front) (cells (done ∷ reverse left)) others in
     let now : Owns (map_of places) (held ++ (cell ∷ rest)) = far.ends.turned (cell ∷ rest) (subst (Owns (map_of start)) whole owned) in
     (owned_front (map_of places) done.id (Leaf (rows_at (map_of start) done.id)) (held ++ rest) (owned_same (map_of places) (held ++ (cell ∷ rest)) (cell ∷ (held ++ rest)) now (same_pass held (cell ∷ []) rest))).0
 
@@ -102,11 +102,11 @@ one_settled start places next all left before done gathered more others popped f
     let same : rows_at (map_of places) done.id ≡ rows_at (map_of start) done.id = ap rows_in_node held in
     let end = end_of_done (map_of start) done in
     let as_end : end_of_done (map_of places) done ≡ end =
-        ap (λ (rows : List Row). let e : LeafEnd = record { node = done.id; path = done.plan.path; outcome = outcome_of_plan rows done.plan } in e) same in
+    ap (λ (rows : List Row). let e : LeafEnd = record { node = done.id; path = done.plan.path; outcome = outcome_of_plan rows done.plan } in e) same in
     let ids = ended.ids in
     let turned : Turns (map_of places) (map_of next) (leaf_cell (map_of start) done.id ∷ []) (leaf_cells ids end.outcome.pieces) =
-        subst (λ (e : LeafEnd). Turns (map_of places) (map_of next) (leaf_cell (map_of start) done.id ∷ []) (leaf_cells ids e.outcome.pieces)) as_end
-        (subst (λ (rows : List Row). Turns (map_of places) (map_of next) ((done.id, Leaf rows) ∷ []) (leaf_cells ids (end_of_done (map_of places) done).outcome.pieces)) same ended.turned) in
+    subst (λ (e : LeafEnd). Turns (map_of places) (map_of next) (leaf_cell (map_of start) done.id ∷ []) (leaf_cells ids e.outcome.pieces)) as_end
+    (subst (λ (rows : List Row). Turns (map_of places) (map_of next) ((done.id, Leaf rows) ∷ []) (leaf_cells ids (end_of_done (map_of places) done).outcome.pieces)) same ended.turned) in
     let many : length ids ≡ length end.outcome.pieces = subst (λ (e : LeafEnd). length ids ≡ length e.outcome.pieces) as_end ended.many in
     let nodes : more.nodes ≡ gathered.nodes ++ change_at ids end ∷ [] = subst (λ (e : LeafEnd). more.nodes ≡ gathered.nodes ++ change_at ids e ∷ []) as_end ended.nodes-are in
     let loose : more.loose.items ≡ gathered.loose.items ++ end.outcome.loose = subst (λ (e : LeafEnd). more.loose.items ≡ gathered.loose.items ++ e.outcome.loose) as_end ended.loose-are in
@@ -123,6 +123,7 @@ one_settled start places next all left before done gathered more others popped f
 pub all_settled : (start places : List Place) (all left : List LeafDone) (gathered : Gathered) → left ≡ [] → SettleSoFar start places all left gathered
     → LeavesEnd (map_of start) (map_of places) (done_cells (map_of start) (reverse all)) (map (end_of_done (map_of start)) (reverse all)) gathered.nodes gathered.loose.items × (gathered.answers ≡ answers_of_done (reverse all))
 all_settled start places all left gathered none far =
-    let whole : far.front ≡ reverse all = sym (append-nil far.front) ∙ ap (λ (ds : List LeafDone). far.front ++ reverse ds) (sym none) ∙ far.whole in
-    (subst (λ (ds : List LeafDone). LeavesEnd (map_of start) (map_of places) (done_cells (map_of start) ds) (map (end_of_done (map_of start)) ds) gathered.nodes gathered.loose.items) whole far.ends,
-    far.answers ∙ ap answers_of_done whole)
+    let whole : far.front ≡ reverse all = sym (append-nil far.front) ∙ ap (λ (ds : List LeafDone). far.front ++ reverse ds) (sym none) ∙ far.whole in (
+      subst (λ (ds : List LeafDone). LeavesEnd (map_of start) (map_of places) (done_cells (map_of start) ds) (map (end_of_done (map_of start)) ds) gathered.nodes gathered.loose.items) whole far.ends,
+      far.answers ∙ ap answers_of_done whole,
+    )

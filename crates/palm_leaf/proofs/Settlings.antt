@@ -8,7 +8,6 @@ use Rattle.palm_node.specs.declared.id.NodeId.{NodeId}
 use Rattle.palm_node.specs.declared.id.Piece.{Piece}
 use Rattle.palm_node.specs.declared.node.Node.{Node}
 use Rattle.palm_node.specs.declared.node.Node.TheVariants.{Leaf}
-use Rattle.palm_node.specs.declared.change.Change.{Change}
 use Rattle.palm_arena.specs.declared.place.Place.{Place}
 use Rattle.palm_arena.specs.declared.place.Place.TheVariants.{Empty, Holds}
 use Rattle.palm_arena.specs.ArenaState.{with_place, IsVacant, NoneLent}
@@ -19,7 +18,7 @@ use Rattle.palm_arena.proofs.Natural.{length-map'}
 use Rattle.palm_arena.proofs.Standing.{none_lent_after_put}
 use Rattle.palm_arena.proofs.Turning.{put_turns, drop_turns, vacant_none, turns_then, turns_before, turns_same}
 use Rattle.palm_leaf.specs.Answers.{rows_at}
-use Rattle.palm_leaf.specs.Ends.{pieces_at, leaf_cells, leaf_cell, change_at}
+use Rattle.palm_leaf.specs.Ends.{pieces_at, leaf_cells, leaf_cell}
 use Rattle.palm_leaf.specs.Settling.{AreTaken, EndsAs}
 use Rattle.palm_leaf.specs.Worked.{low_and_rows}
 use Rattle.palm_leaf.specs.declared.leaf_work.NewLeaf.{NewLeaf}

@@ -1,12 +1,12 @@
 -- What a pass gives the leaf stage, and what the stage gives it back.
-use Rattle.std.proofs.Common.{◌≡◌, ℕ, zero, suc, ◌+◌, ◌≤◌, Bool, true, false, cond, List, [], ◌∷◌, ◌++◌, length, map, None, Some, refl, sym, ap, ◌∙◌, append_assoc, subst, arith, eq-eqb}
-use Rattle.std.specs.Prelude.{Option, ◌==◌}
+use Rattle.std.proofs.Common.{◌≡◌, ℕ, zero, suc, ◌≤◌, Bool, true, false, cond, List, [], ◌∷◌, ◌++◌, length, map, Some, refl, sym, ap, ◌∙◌, append_assoc, subst, arith, eq-eqb}
+use Rattle.std.specs.Prelude.{Option}
 use Rattle.std.specs.List.{flat_map, AllByRecursion}
 use Rattle.std.proofs.lemmas.Bool.{le-ltb, ne_eqb}
 use Rattle.palm_base.specs.Table.{after_all}
 use Rattle.palm_base.specs.Cut.{cut}
-use Rattle.palm_base.specs.Pass.{Outcome, pass, leaf_outcome, leaves_of, is_small}
-use Rattle.palm_base.specs.Lawful.{HasFromTo, Root}
+use Rattle.palm_base.specs.Pass.{Outcome, pass, is_small}
+use Rattle.palm_base.specs.Lawful.{Root}
 use Rattle.palm_base.specs.declared.bounds.TheConstants.{LEAST_LEAF_ROWS, MOST_LEAF_ROWS}
 use Rattle.palm_base.specs.declared.row.Row.{Row}
 use Rattle.palm_base.proofs.CutParts.{large}
@@ -19,13 +19,13 @@ use Rattle.palm_arena.specs.Cells.{Cell, Owns, SameCells}
 use Rattle.palm_arena.specs.Placed.{Placed, value_in}
 use Rattle.palm_arena.specs.Sites.{Site, raised, sites_at, cells_above, outcome_at}
 use Rattle.palm_arena.specs.Passes.{Pass, is_among, root_site, leaf_sites, Begins, StandsAt}
-use Rattle.palm_arena.proofs.CellLists.{owned_same, owned_front, same_append, same_trans, same_eq, same_pass}
-use Rattle.palm_arena.proofs.ListParts.{same_parted, same_each, map_all, all_each, all_both, flat_all}
+use Rattle.palm_arena.proofs.CellLists.{owned_same, same_append, same_trans, same_eq}
+use Rattle.palm_arena.proofs.ListParts.{same_parted, map_all, all_each, all_both}
 use Rattle.palm_route.specs.Edits.{edits_of}
 use Rattle.palm_route.specs.declared.part.Part.{Part}
 use Rattle.palm_route.specs.declared.part.Group.{Group}
 use Rattle.palm_leaf.specs.Answers.{rows_at, rows_in_node}
-use Rattle.palm_leaf.specs.Ends.{LeafEnd, LeavesEnd, end_of, group_cells, leaf_cell}
+use Rattle.palm_leaf.specs.Ends.{LeafEnd, LeavesEnd, end_of, group_cells}
 use Rattle.palm_leaf.specs.Loads.{LeafLoad, IsLoad, load_group, Loads}
 use Rattle.palm_leaf.specs.Routed.{HasKey, IsRouted, written_low}
 use Rattle.palm_leaf.specs.Stage.{least_of, HasGroups, LeavesDone}
@@ -71,11 +71,14 @@ load_parted loads =
   where
     touched : LeafLoad → List Cell
     touched load = cond (has_parts load.parts) (load_cell load ∷ []) []
+
     still : LeafLoad → List Cell
     still load = cond (has_parts load.parts) [] (load_cell load ∷ [])
+
     both : (b : Bool) (cell : Cell) → SameCells (cell ∷ []) (cond b (cell ∷ []) [] ++ cond b [] (cell ∷ []))
     both true cell i = refl
     both false cell i = refl
+
     one : (ls : List LeafLoad) → SameCells (map load_cell ls) (flat_map (λ (load : LeafLoad). touched load ++ still load) ls)
     one [] = λ i. refl
     one (load ∷ ls) = same_append (load_cell load ∷ []) (touched load ++ still load) (map load_cell ls) (flat_map (λ (l : LeafLoad). touched l ++ still l) ls) (both (has_parts load.parts) (load_cell load)) (one ls)
@@ -106,9 +109,9 @@ ends_of_groups nodes least d (load ∷ loads) each held fits = by load.site load
         let parts' = part ∷ parts in
         let end : Outcome zero → LeafEnd = λ (o : Outcome zero). record { node = site.place.0; path = site.path; outcome = o } in
         let outcome : leaf_left least (written_low site.path low) (after_all (rows_at nodes site.place.0) (edits_of parts')) ≡ outcome_at zero d site =
-            ap (λ (l : ℕ). leaf_left least l (after_all (rows_at nodes site.place.0) (edits_of parts'))) (sym is.low-is)
-            ∙ ap (λ (o : Option Node). leaf_left least site.low (after_all (rows_in_node o) (edits_of parts'))) held
-            ∙ ap (λ edits. leaf_left least site.low (after_all site.place.1 edits)) (sym is.edits-are) ∙ cut in
+        ap (λ (l : ℕ). leaf_left least l (after_all (rows_at nodes site.place.0) (edits_of parts'))) (sym is.low-is)
+        ∙ ap (λ (o : Option Node). leaf_left least site.low (after_all (rows_in_node o) (edits_of parts'))) held
+        ∙ ap (λ edits. leaf_left least site.low (after_all site.place.1 edits)) (sym is.edits-are) ∙ cut in
         ap (λ (e : LeafEnd). e ∷ map (end_of nodes least) (flat_map load_group loads)) (ap end outcome) ∙ ap (λ (es : List LeafEnd). end (outcome_at zero d site) ∷ es) rest
 
 -- ---- what the serial rule makes of a leaf
@@ -207,9 +210,10 @@ pass_facts d place p nodes shape groups parts begins routed =
         let some : 1 ≤ n = omega (arith, raised_sum zero (suc d)) in
         let lawful = begins.is-pass.lawful in
         let full = lawful_full n lawful.0 (root_site (pass_at (suc d) place p)) some lawful.1 in
-        let fulls = map_all IsFull (λ (load : LeafLoad). load.site) l.loads (subst (AllByRecursion IsFull) (sym l.sites-are) full) in
-        (subst (λ least. AllByRecursion (IsCut least (suc d)) l.loads) (sym (least_below shape n begins.levels some)) (all_below_cut d l.loads),
-        all_each (λ (load : LeafLoad). IsLoad load × IsFull load.site) (IsStillLoad (suc d)) (λ load both. full_still d load both.0 both.1) l.loads (all_both IsLoad (λ (load : LeafLoad). IsFull load.site) l.loads l.each fulls))
+        let fulls = map_all IsFull (λ (load : LeafLoad). load.site) l.loads (subst (AllByRecursion IsFull) (sym l.sites-are) full) in (
+          subst (λ least. AllByRecursion (IsCut least (suc d)) l.loads) (sym (least_below shape n begins.levels some)) (all_below_cut d l.loads),
+          all_each (λ (load : LeafLoad). IsLoad load × IsFull load.site) (IsStillLoad (suc d)) (λ load both. full_still d load both.0 both.1) l.loads (all_both IsLoad (λ (load : LeafLoad). IsFull load.site) l.loads l.each fulls),
+        )
 
 -- ---- what the stage takes and gives
 
@@ -217,20 +221,23 @@ pub has_groups : (p : Pass) (nodes : NodeId → Option Node) (shape : Shape) (gr
 has_groups p nodes shape groups parts =
     by_levels (λ p. Begins p nodes shape → IsRouted p nodes shape groups parts → HasGroups nodes groups)
     (λ d place p begins routed.
-        let facts = pass_facts d place p nodes shape groups parts begins routed in
-        let loads = facts.loads in
-        let others = cells_above d zero (root_site (pass_at d place p)) ++ p.rest in
-        let touched = touched_cells loads in
-        let still = still_cells loads in
-        let cells : group_cells nodes groups ≡ touched = ap (group_cells nodes) facts.groups-are ∙ groups_are_touched nodes loads facts.held in
-        record {
-          leaves = (still ++ others, subst (λ (cs : List Cell). Owns nodes (cs ++ (still ++ others))) (sym cells)
-              (owned_same nodes (map load_cell loads ++ others) (touched ++ (still ++ others)) facts.owned
-              (same_trans (map load_cell loads ++ others) ((touched ++ still) ++ others) (touched ++ (still ++ others)) (same_append (map load_cell loads) (touched ++ still) others others (load_parted loads) (λ i. refl))
-              (same_eq ((touched ++ still) ++ others) (touched ++ (still ++ others)) (append_assoc touched still others)))));
-          keys = subst (AllByRecursion (λ (group : Group). AllByRecursion HasKey group.parts)) (sym facts.groups-are) (group_facts (AllByRecursion HasKey) (λ part parts keys. keys) loads facts.each);
-          some = subst (AllByRecursion (λ (group : Group). 1 ≤ length group.parts)) (sym facts.groups-are) (group_facts (λ parts. 1 ≤ length parts) (λ part parts keys. omega arith) loads facts.each);
-        })
+    let facts = pass_facts d place p nodes shape groups parts begins routed in
+    let loads = facts.loads in
+    let others = cells_above d zero (root_site (pass_at d place p)) ++ p.rest in
+    let touched = touched_cells loads in
+    let still = still_cells loads in
+    let cells : group_cells nodes groups ≡ touched = ap (group_cells nodes) facts.groups-are ∙ groups_are_touched nodes loads facts.held in
+    record {
+      leaves = (
+        still ++ others,
+        subst (λ (cs : List Cell). Owns nodes (cs ++ (still ++ others))) (sym cells)
+            (owned_same nodes (map load_cell loads ++ others) (touched ++ (still ++ others)) facts.owned
+            (same_trans (map load_cell loads ++ others) ((touched ++ still) ++ others) (touched ++ (still ++ others)) (same_append (map load_cell loads) (touched ++ still) others others (load_parted loads) (λ i. refl))
+            (same_eq ((touched ++ still) ++ others) (touched ++ (still ++ others)) (append_assoc touched still others)))),
+      );
+      keys = subst (AllByRecursion (λ (group : Group). AllByRecursion HasKey group.parts)) (sym facts.groups-are) (group_facts (AllByRecursion HasKey) (λ part parts keys. keys) loads facts.each);
+      some = subst (AllByRecursion (λ (group : Group). 1 ≤ length group.parts)) (sym facts.groups-are) (group_facts (λ parts. 1 ≤ length parts) (λ part parts keys. omega arith) loads facts.each);
+    })
     p
 
 pub stands_at : (p : Pass) (old new : NodeId → Option Node) (shape : Shape) (groups : List Group) (parts : List Part) (gathered : Gathered) → Begins p old shape → IsRouted p old shape groups parts → LeavesDone old new (least_of shape) groups gathered
@@ -238,27 +245,27 @@ pub stands_at : (p : Pass) (old new : NodeId → Option Node) (shape : Shape) (g
 stands_at p old new shape groups parts gathered =
     by_levels (λ p. Begins p old shape → IsRouted p old shape groups parts → LeavesDone old new (least_of shape) groups gathered → StandsAt p 1 new (record { nodes = gathered.nodes; loose = gathered.loose.items; removed = [] }))
     (λ d place p begins routed done.
-        let facts = pass_facts d place p old shape groups parts begins routed in
-        let loads = facts.loads in
-        let root = root_site (pass_at d place p) in
-        let ends : map (end_of old (least_of shape)) groups ≡ load_ends d loads = ap (map (end_of old (least_of shape))) facts.groups-are ∙ ends_of_groups old (least_of shape) d loads facts.each facts.held facts.cuts in
-        let cells : group_cells old groups ≡ touched_cells loads = ap (group_cells old) facts.groups-are ∙ groups_are_touched old loads facts.held in
-        let ended : LeavesEnd old new (touched_cells loads) (load_ends d loads) gathered.nodes gathered.loose.items =
-            subst (λ (es : List LeafEnd). LeavesEnd old new (touched_cells loads) es gathered.nodes gathered.loose.items) ends
-            (subst (λ (cs : List Cell). LeavesEnd old new cs (map (end_of old (least_of shape)) groups) gathered.nodes gathered.loose.items) cells done.ends) in
-        let ids : p.routed ≡ map (λ (group : Group). group.leaf) (flat_map load_group loads) = routed.routed-are ∙ ap (map (λ (group : Group). group.leaf)) facts.groups-are in
-        let hit = hits old loads (cells_above d zero root ++ p.rest) facts.owned in
-        record {
-          is-pass = begins.is-pass;
-          d = d;
-          l = zero;
-          root = root;
-          level-is = refl;
-          tree-is = refl;
-          path-is = refl;
-          low-is = refl;
-          edits-are = refl;
-          stands = leaves_stand d root (is_among p.routed) p.rest old new loads gathered.nodes gathered.loose.items facts.sites-are facts.stills
-              (subst (λ (ids : List NodeId). AllByRecursion (λ (load : LeafLoad). is_among ids load.site.place.0 ≡ has_parts load.parts) loads) (sym ids) hit) facts.owned ended;
-        })
+    let facts = pass_facts d place p old shape groups parts begins routed in
+    let loads = facts.loads in
+    let root = root_site (pass_at d place p) in
+    let ends : map (end_of old (least_of shape)) groups ≡ load_ends d loads = ap (map (end_of old (least_of shape))) facts.groups-are ∙ ends_of_groups old (least_of shape) d loads facts.each facts.held facts.cuts in
+    let cells : group_cells old groups ≡ touched_cells loads = ap (group_cells old) facts.groups-are ∙ groups_are_touched old loads facts.held in
+    let ended : LeavesEnd old new (touched_cells loads) (load_ends d loads) gathered.nodes gathered.loose.items =
+    subst (λ (es : List LeafEnd). LeavesEnd old new (touched_cells loads) es gathered.nodes gathered.loose.items) ends
+    (subst (λ (cs : List Cell). LeavesEnd old new cs (map (end_of old (least_of shape)) groups) gathered.nodes gathered.loose.items) cells done.ends) in
+    let ids : p.routed ≡ map (λ (group : Group). group.leaf) (flat_map load_group loads) = routed.routed-are ∙ ap (map (λ (group : Group). group.leaf)) facts.groups-are in
+    let hit = hits old loads (cells_above d zero root ++ p.rest) facts.owned in
+    record {
+      is-pass = begins.is-pass;
+      d = d;
+      l = zero;
+      root = root;
+      level-is = refl;
+      tree-is = refl;
+      path-is = refl;
+      low-is = refl;
+      edits-are = refl;
+      stands = leaves_stand d root (is_among p.routed) p.rest old new loads gathered.nodes gathered.loose.items facts.sites-are facts.stills
+          (subst (λ (ids : List NodeId). AllByRecursion (λ (load : LeafLoad). is_among ids load.site.place.0 ≡ has_parts load.parts) loads) (sym ids) hit) facts.owned ended;
+    })
     p

@@ -1,16 +1,13 @@
 -- What a leaf's work leaves where the leaf isn't kept.
-use Rattle.std.proofs.Common.{◌≡◌, ◌≤◌, vec_len, ℕ, true, false, List, [], ◌∷◌, refl, sym, ap, subst, arith, ◌∙◌, ◌⊎◌, inl, inr, Some}
-use Rattle.palm_base.specs.Cut.{cut}
-use Rattle.palm_base.specs.Table.{row_key, after_all}
-use Rattle.palm_base.specs.Pass.{Outcome, is_small, leaves_of, with_lows}
+use Rattle.std.proofs.Common.{◌≡◌, ◌≤◌, vec_len, ℕ, true, false, List, [], refl, ap, subst, arith, ◌∙◌, ◌⊎◌, inl, inr, Some}
+use Rattle.palm_base.specs.Pass.{is_small}
 use Rattle.palm_base.specs.declared.bounds.TheConstants.{MOST_LEAF_ROWS}
 use Rattle.palm_base.specs.declared.row.Row.{Row}
 use Rattle.palm_base.proofs.Cuts.{cut_none}
 use Rattle.palm_node.specs.declared.node.Node.{Node}
 use Rattle.palm_node.specs.declared.node.Node.TheVariants.{Leaf}
-use Rattle.palm_route.specs.Edits.{edits_of}
 use Rattle.palm_leaf.specs.Answers.{rows_in_node}
-use Rattle.palm_leaf.specs.Worked.{leaf_left, outcome_shown, low_and_rows, parts_of_plan, IsResolved, IsWorked}
+use Rattle.palm_leaf.specs.Worked.{leaf_left, outcome_shown, IsResolved, IsWorked}
 use Rattle.palm_leaf.specs.declared.leaf_work.LeafPlan.{LeafPlan}
 use Rattle.palm_leaf.specs.declared.leaf_work.LeafWork.{LeafWork}
 

@@ -1,12 +1,12 @@
 -- What the parts of a leaf are answered, and what they leave of its rows.
-use Rattle.std.specs.Prelude.{◌≡◌, ℕ, nat_lt, if◌then◌else◌, List, [], ◌∷◌, take, filter, length, map, Option, None, Some}
+use Rattle.std.specs.Prelude.{ℕ, List, [], ◌∷◌, take, filter, Option, None, Some}
 use Rattle.palm_base.specs.Key.{key}
 use Rattle.palm_base.specs.Table.{rate_at, lies_within, after_all}
 use Rattle.palm_base.specs.declared.row.Row.{Row}
 use Rattle.palm_node.specs.declared.id.NodeId.{NodeId}
 use Rattle.palm_node.specs.declared.node.Node.{Node}
 use Rattle.palm_node.specs.declared.node.Node.TheVariants.{Leaf, Inner}
-use Rattle.palm_route.specs.Edits.{edit_before, edits_of}
+use Rattle.palm_route.specs.Edits.{edits_of}
 use Rattle.palm_route.specs.declared.part.Ask.{Ask}
 use Rattle.palm_route.specs.declared.part.Ask.TheVariants as ask
 use Rattle.palm_route.specs.declared.part.Part.{Part}

@@ -1,6 +1,5 @@
 -- Parts of a leaf with room for their answers.
 use Rattle.std.specs.Prelude.{◌≡◌, ℕ, ◌≤◌, List, [], Option, vec_capacity}
-use Rattle.std.specs.Global.{Vec}
 use Rattle.palm_base.specs.declared.row.Row.{Row}
 use Rattle.palm_route.specs.declared.part.Ask.{Ask}
 use Rattle.palm_route.specs.declared.part.Ask.TheVariants as ask

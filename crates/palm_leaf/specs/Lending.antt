@@ -1,5 +1,5 @@
 -- Leaves that are lent with their plans, worked on, and given back.
-use Rattle.std.specs.Prelude.{◌≡◌, ◌≢◌, ◌⊎◌, ◌≤◌, ℕ, List, [], ◌∷◌, ◌++◌, length, map, Option, None, Some}
+use Rattle.std.specs.Prelude.{◌≡◌, ◌≢◌, ◌⊎◌, ◌≤◌, ℕ, List, [], ◌∷◌, length, map, Option, None, Some}
 use Rattle.std.specs.List.{AllByRecursion}
 use Rattle.palm_base.specs.declared.row.Row.{Row}
 use Rattle.palm_node.specs.declared.id.NodeId.{NodeId}
@@ -11,7 +11,7 @@ use Rattle.palm_arena.specs.Cells.{Cell}
 use Rattle.palm_route.specs.declared.part.Group.{Group}
 use Rattle.palm_leaf.specs.Answers.{answers_in, rows_at, rows_in_node}
 use Rattle.palm_leaf.specs.Routed.{written_low}
-use Rattle.palm_leaf.specs.Ends.{LeafEnd, end_of}
+use Rattle.palm_leaf.specs.Ends.{end_of}
 use Rattle.palm_leaf.specs.Worked.{IsPlan, parts_of_plan, answers_of_plan, outcome_of_plan}
 use Rattle.palm_leaf.specs.declared.leaf_work.LeafWork.{LeafWork}
 

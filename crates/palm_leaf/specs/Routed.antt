@@ -1,16 +1,14 @@
 -- The groups of a pass, and its leaves with their parts.
 use Rattle.std.specs.Prelude.{◌≡◌, ℕ, ◌≤◌, ◌==◌, if◌then◌else◌, List, [], ◌∷◌, map, sum_by, length, Option}
-use Rattle.std.specs.List.{flat_map, AllByRecursion}
-use Rattle.std.proofs.Common.{zero}
+use Rattle.std.specs.List.{AllByRecursion}
 use Rattle.palm_base.specs.Key.{IsKey}
 use Rattle.palm_node.specs.declared.id.NodeId.{NodeId}
 use Rattle.palm_node.specs.declared.node.Node.{Node}
 use Rattle.palm_arena.specs.declared.shape.Shape.{Shape}
 use Rattle.palm_arena.specs.Leaves.{leaves_at}
-use Rattle.palm_arena.specs.Sites.{Site}
-use Rattle.palm_arena.specs.Passes.{Pass, root_site, leaf_sites}
+use Rattle.palm_arena.specs.Passes.{Pass}
 use Rattle.palm_route.specs.Edits.{edits_of}
-use Rattle.palm_route.specs.Groups.{group_at, groups_of}
+use Rattle.palm_route.specs.Groups.{groups_of}
 use Rattle.palm_route.specs.declared.part.Ask.{Ask}
 use Rattle.palm_route.specs.declared.part.Ask.TheVariants as ask
 use Rattle.palm_route.specs.declared.part.Part.{Part}

@@ -1,15 +1,12 @@
 -- Leaves that were given back, and what is left to do for them: the later ones are put into the arena, and removed ones dropped.
-use Rattle.std.specs.Prelude.{◌≡◌, ℕ, List, [], ◌∷◌, ◌++◌, length, map, Option}
+use Rattle.std.specs.Prelude.{◌≡◌, List, [], ◌∷◌, ◌++◌, length, map, Option}
 use Rattle.std.specs.List.{flat_map}
-use Rattle.std.proofs.Common.{zero}
-use Rattle.palm_base.specs.Pass.{Outcome}
-use Rattle.palm_base.specs.declared.row.Row.{Row}
 use Rattle.palm_node.specs.declared.id.NodeId.{NodeId}
 use Rattle.palm_node.specs.declared.id.Piece.{Piece}
 use Rattle.palm_node.specs.declared.node.Node.{Node}
 use Rattle.palm_arena.specs.Cells.{Cell, Turns}
 use Rattle.palm_leaf.specs.Answers.{rows_at}
-use Rattle.palm_leaf.specs.Ends.{LeafEnd, LeavesEnd, pieces_at, leaf_cells, leaf_cell, change_at}
+use Rattle.palm_leaf.specs.Ends.{LeafEnd, pieces_at, leaf_cells, leaf_cell, change_at}
 use Rattle.palm_leaf.specs.Worked.{low_and_rows, outcome_of_plan, answers_of_plan}
 use Rattle.palm_leaf.specs.declared.answer.PartAnswer.{PartAnswer}
 use Rattle.palm_leaf.specs.declared.leaf_work.NewLeaf.{NewLeaf}

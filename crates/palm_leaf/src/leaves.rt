@@ -28,7 +28,11 @@ use std::thread::Threads;
 fn least_rows(shape: Shape) -> usize
     ensures { result ≡ least_of shape }
 {
-    if shape.levels == 1 { 0 } else { LEAST_LEAF_ROWS }
+    if shape.levels == 1 {
+        0
+    } else {
+        LEAST_LEAF_ROWS
+    }
 }
 
 // Works on all leaves beside each other.

@@ -162,7 +162,15 @@ fn settle<L: Ledger>(
     } = plan;
     append_answers(asked, &mut gathered.answers)?;
     if kept {
-        settle_kept(alloc, arena, Piece { low, id }, path, later, gathered, steps)?;
+        settle_kept(
+            alloc,
+            arena,
+            Piece { low, id },
+            path,
+            later,
+            gathered,
+            steps,
+        )?;
     } else {
         settle_removed(alloc, arena, id, path, &rows, gathered)?;
     }

@@ -1,4 +1,4 @@
-use Rattle.std.proofs.Common.{◌≡◌, ◌≤◌, ◌<◌, ◌+◌, ◌∙◌, sym, ap, arith, length, refl}
+use Rattle.std.proofs.Common.{◌∙◌, sym, ap, arith, length, refl}
 use Rattle.palm_base.specs.Table.{row_key}
 use Rattle.palm_base.specs.Pass.{first_low}
 use Rattle.palm_base.specs.Cut.{piece_count}

@@ -1,8 +1,6 @@
-use Rattle.std.proofs.Common.{◌≡◌, ◌∙◌, sym, ap, subst, List, []}
-use Rattle.palm_node.specs.declared.change.Changes.{Changes}
-use Rattle.palm_arena.specs.Passes.{StandsAt}
+use Rattle.std.proofs.Common.{sym, subst}
 use Rattle.palm_arena.specs.Reads.{map_of}
-use Rattle.palm_leaf.specs.Stage.{least_of, HasGroups, LeavesDone}
+use Rattle.palm_leaf.specs.Stage.{HasGroups}
 use Rattle.palm_leaf.proofs.StagePass.{has_groups, stands_at}
 use Rattle.palm_leaf.proofs.leaves.change_leaves.Goals as goal
 

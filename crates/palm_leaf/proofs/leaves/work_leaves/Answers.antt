@@ -1,10 +1,9 @@
-use Rattle.std.proofs.Common.{◌≡◌, ◌≤◌, ◌∙◌, ap, sym, arith, subst, map, Some, vec_len, length}
+use Rattle.std.proofs.Common.{sym, arith, subst}
 use Rattle.std.specs.List.{AllByRecursion, AllZip}
 use Rattle.std.proofs.lemmas.List.Elements.{All-from_recursion}
 use Rattle.palm_arena.specs.Reads.{map_of}
 use Rattle.palm_share.specs.Jobs.{Holds, Relates}
-use Rattle.palm_leaf.specs.Lending.{present, lease_ids, LentAre}
-use Rattle.palm_leaf.specs.Routed.{parts_in}
+use Rattle.palm_leaf.specs.Lending.{present, LentAre}
 use Rattle.palm_leaf.specs.Worked.{IsReady, HasRun}
 use Rattle.palm_leaf.proofs.LeavesRun.{all_ready, all_run, some_parts, later_few, given_owned, done_owned, leaves_done}
 use Rattle.palm_leaf.proofs.leaves.work_leaves.Goals as goal

@@ -1,7 +1,5 @@
-use Rattle.std.proofs.Common.{◌≡◌, ◌∙◌, sym, ap, arith, refl, [], ◌∷◌, ◌++◌, Some, None}
-use Rattle.std.specs.Prelude.{Option}
+use Rattle.std.proofs.Common.{◌∙◌, ap, arith, [], ◌∷◌, ◌++◌}
 use Rattle.palm_leaf.specs.Lending.{present, lease_ids}
-use Rattle.palm_leaf.specs.Settling.{done_of}
 use Rattle.palm_leaf.proofs.LentIds.{last_is_lent}
 use Rattle.palm_leaf.proofs.Lendings.{one_passed, next_is_lent, one_given}
 use Rattle.palm_leaf.proofs.lending.give_leaves_back.Goals as goal

@@ -1,5 +1,4 @@
-use Rattle.std.proofs.Common.{◌≡◌, ◌≤◌, ◌+◌, ◌∙◌, sym, ap, arith, refl, subst, length, [], ◌∷◌, ◌++◌, Some, length-append}
-use Rattle.std.specs.Prelude.{Option}
+use Rattle.std.proofs.Common.{◌≡◌, ◌+◌, ◌∙◌, sym, ap, arith, refl, subst, length, [], ◌∷◌, length-append}
 use Rattle.std.specs.Vec.Iter.{into_iter_items}
 use Rattle.palm_arena.specs.Reads.{map_of}
 use Rattle.palm_leaf.specs.Answers.{rows_at}

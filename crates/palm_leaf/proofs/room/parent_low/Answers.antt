@@ -1,5 +1,5 @@
-use Rattle.std.proofs.Common.{◌≡◌, ℕ, ◌-◌, ◌∙◌, cond, sym, ap, length, Some, eq-eqb}
-use Rattle.std.specs.Prelude.{◌==◌, slice_get}
+use Rattle.std.proofs.Common.{◌≡◌, ◌-◌, ◌∙◌, cond, sym, ap, length, Some, eq-eqb}
+use Rattle.std.specs.Prelude.{slice_get}
 use Rattle.std.proofs.lemmas.Bool.{ne_eqb}
 use Rattle.palm_leaf.proofs.ParentLows.{last_step}
 use Rattle.palm_leaf.proofs.room.parent_low.Goals as goal

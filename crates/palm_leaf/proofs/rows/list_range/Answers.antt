@@ -1,4 +1,4 @@
-use Rattle.std.proofs.Common.{◌≡◌, ◌<◌, ◌+◌, ◌∙◌, sym, ap, arith, length, drop, length-append, [], ◌∷◌}
+use Rattle.std.proofs.Common.{◌<◌, ◌+◌, ◌∙◌, sym, ap, arith, length, drop, length-append, [], ◌∷◌}
 use Rattle.palm_base.specs.Table.{lies_within}
 use Rattle.palm_leaf.proofs.Ranges.{listed_with, passes_by, one_listed, from_item}
 use Rattle.palm_leaf.proofs.rows.list_range.Goals as goal
@@ -20,9 +20,9 @@ loop-row-preserved c =
             capacity = w.push_reserved.ensures.capacity ∙ far.capacity;
           }
       | else-is_within w ↦ rw w.found-is record {
-          whole = passes_by test c.args.limit c.loop-row.found.items rest c.row-item.result (sym c.is_within.ensures ∙ w.if-is_within.false) ∙ ap (listed_with test c.args.limit c.loop-row.found.items) (sym item) ∙ far.whole;
-          few = omega (arith, far.few);
-          below = far.below;
-          capacity = far.capacity;
-        }
+        whole = passes_by test c.args.limit c.loop-row.found.items rest c.row-item.result (sym c.is_within.ensures ∙ w.if-is_within.false) ∙ ap (listed_with test c.args.limit c.loop-row.found.items) (sym item) ∙ far.whole;
+        few = omega (arith, far.few);
+        below = far.below;
+        capacity = far.capacity;
+      }
     ]

@@ -1,4 +1,4 @@
-use Rattle.std.proofs.Common.{◌≡◌, ◌≤◌, vec_len, vec_capacity, drop, take, filter, length}
+use Rattle.std.proofs.Common.{◌≡◌, ◌≤◌, vec_capacity, drop, take, filter, length}
 use Rattle.palm_base.specs.Table.{lies_within}
 use Rattle.palm_leaf.proofs.Ranges.{listed_with}
 use Rattle.palm_leaf.proofs.rows.list_range.Given as goal

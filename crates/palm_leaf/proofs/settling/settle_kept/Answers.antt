@@ -1,4 +1,4 @@
-use Rattle.std.proofs.Common.{◌∙◌, ap, refl, subst, [], ◌∷◌, ◌++◌}
+use Rattle.std.proofs.Common.{ap, refl, subst, [], ◌∷◌, ◌++◌}
 use Rattle.palm_arena.specs.Reads.{map_of}
 use Rattle.palm_leaf.specs.Settling.{AreTaken}
 use Rattle.palm_leaf.proofs.Settlings.{kept_ends}

@@ -1,4 +1,4 @@
-use Rattle.std.proofs.Common.{◌≡◌, ◌+◌, ◌∙◌, ap, sym, arith, length, List, [], ◌∷◌, ◌++◌}
+use Rattle.std.proofs.Common.{◌∙◌, ap, arith, length, [], ◌∷◌}
 use Rattle.std.specs.Prelude.{sum_by}
 use Rattle.std.proofs.lemmas.List.Sums.{sum_by-append}
 use Rattle.palm_arena.specs.Reads.{map_of}
@@ -8,9 +8,10 @@ use Rattle.palm_leaf.proofs.SettleSteps.{next_done, one_settled}
 use Rattle.palm_leaf.proofs.settling.settle_leaves.Goals as goal
 
 pub settle-requires-clause-leaf : goal.settle-requires-clause-leaf
-settle-requires-clause-leaf g c =
-    (rows_at (map_of c.args.arena.now.places) c.in-Some.leaf.id,
-    next_done c.args.arena.now.places c.loop-leaf.arena.places c.args.done.items c.pop.new.self.items c.loop-leaf.done.items c.in-Some.leaf c.loop-leaf.gathered c.requires.leaves.0 c.in-Some.ensures.items c.loop-leaf.invariant.far c.requires.leaves.1)
+settle-requires-clause-leaf g c = (
+  rows_at (map_of c.args.arena.now.places) c.in-Some.leaf.id,
+  next_done c.args.arena.now.places c.loop-leaf.arena.places c.args.done.items c.pop.new.self.items c.loop-leaf.done.items c.in-Some.leaf c.loop-leaf.gathered c.requires.leaves.0 c.in-Some.ensures.items c.loop-leaf.invariant.far c.requires.leaves.1,
+)
 
 pub loop-leaf-preserved : goal.loop-leaf-preserved
 loop-leaf-preserved g c =
