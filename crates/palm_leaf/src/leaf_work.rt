@@ -60,8 +60,8 @@ fn list_rows(leaf: &Leaf, rows: &mut Vec<Row>)
     }
 }
 
-// Cuts the rows past the first piece into leaves, for which there is room.
-fn cut_later(rows: &[Row], later: &mut Vec<NewLeaf>)
+/// Cuts the rows past the first piece into leaves, for which there is room.
+pub fn cut_later(rows: &[Row], later: &mut Vec<NewLeaf>)
     requires table { IsTable rows.now }
     requires some { 0 < length rows.now }
     requires none { later.old.items ≡ [] }
@@ -91,8 +91,8 @@ impl LeafPlan {
     }
 }
 
-// Lists the rows of a leaf and resolves the parts on them.
-fn resolve_parts(node: &Node, plan: &mut LeafPlan)
+/// Lists the rows of a leaf and resolves the parts on them.
+pub fn resolve_parts(node: &Node, plan: &mut LeafPlan)
     requires leaf { (rows : List Row) × (node.now ≡ Node.Leaf rows) }
     requires plan { IsPlan plan.old }
     ensures { IsResolved (rows_in_node (Some node.now)) plan.old plan.new }

@@ -9,6 +9,8 @@ mod lending;
 mod room;
 mod rows;
 mod settling;
+#[cfg(test)]
+mod tests;
 
 pub use answer::{AnswerList, LeafAnswer, LeafOutcome, PartAnswer};
 pub use leaves::change_leaves;
