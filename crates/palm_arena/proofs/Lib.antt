@@ -4,6 +4,7 @@ pub mod Marks
 pub mod Undoing
 pub mod Keeping
 pub mod Putting
+pub mod Readings
 pub mod Seeing
 pub mod Standing
 pub mod CellLists
@@ -12,3 +13,4 @@ pub mod Natural
 pub mod SitePasses
 pub mod Turning
 pub mod LevelCells
+pub mod NamedNodes

@@ -8,5 +8,6 @@ pub mod LendsNode
 pub mod Passes
 pub mod Placed
 pub mod Reads
+pub mod Routes
 pub mod Sites
 pub mod Standing

@@ -63,3 +63,15 @@ cells_of (suc n) placed =
 -- Children, or pieces, with all that is under them.
 abbrev pub cells_under : (n : ℕ) → List (ℕ × Placed n) → List Cell
 cells_under n children = flat_map (λ child. cells_of n child.1) children
+
+-- Nodes under ids, as many as there are of both. So (0, a), (20, b) under 1 and 2 are (0, (1, a)), (20, (2, b)).
+abbrev pub with_ids : {B : Type 0} → List NodeId → List (ℕ × B) → List (ℕ × (NodeId × B))
+with_ids [] nodes = []
+with_ids (id ∷ ids) [] = []
+with_ids (id ∷ ids) (node ∷ nodes) = (node.0, (id, node.1)) ∷ with_ids ids nodes
+
+-- The cells of inner nodes under ids, without what is under them.
+abbrev pub own_cells : (n : ℕ) → List NodeId → List (ℕ × Body (suc n)) → List Cell
+own_cells n [] nodes = []
+own_cells n (id ∷ ids) [] = []
+own_cells n (id ∷ ids) (node ∷ nodes) = (id, node_of (suc n) node.1) ∷ own_cells n ids nodes

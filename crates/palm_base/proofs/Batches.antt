@@ -98,16 +98,16 @@ batch_holds h tree calls root adds =
 -- ---- every lawful tree and every batch
 
 -- A number above the keys of all calls.
-highest : List Call → ℕ
+pub highest : List Call → ℕ
 highest [] = 0
 highest (call ∷ calls) = suc (edit_key call) + highest calls
 
-adds_below : (h : ℕ) (calls : List Call) → highest calls ≤ h → AllByRecursion (Adds (IsIn 0 h)) calls
+pub adds_below : (h : ℕ) (calls : List Call) → highest calls ≤ h → AllByRecursion (Adds (IsIn 0 h)) calls
 unfolding highest
 adds_below h [] most = tt
 adds_below h (call ∷ calls) most = (λ set. (omega arith, omega arith), adds_below h calls (omega arith))
 
-root_wider : (n h h' : ℕ) (node : Subtree n) → Root n h node → h ≤ h' → Root n h' node
+pub root_wider : (n h h' : ℕ) (node : Subtree n) → Root n h node → h ≤ h' → Root n h' node
 root_wider zero h h' rows root more = (root.0, rising_wider 0 h 0 h' rows root.1 (omega arith) more)
 root_wider (suc n) h h' children root more = (root.0, root.1, in_order_wider n 0 h 0 h' children root.2 (omega arith) more)
 

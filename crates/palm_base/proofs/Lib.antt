@@ -38,3 +38,4 @@ pub mod TableSplits
 pub mod Tables
 pub mod Tops
 pub mod TreeExamples
+pub mod Builds

@@ -20,10 +20,10 @@ use Rattle.palm_base.specs.declared.call.Call.{Call}
 
 -- ---- edits on the two sides of a separator
 
-left_edits : (l m h : ℕ) (edits : List Call) → AllByRecursion (Adds (IsIn l h)) edits → AllByRecursion (Adds (IsIn l m)) (filter (goes_left m) edits)
+pub left_edits : (l m h : ℕ) (edits : List Call) → AllByRecursion (Adds (IsIn l h)) edits → AllByRecursion (Adds (IsIn l m)) (filter (goes_left m) edits)
 left_edits l m h = every_filter (Adds (IsIn l h)) (Adds (IsIn l m)) (goes_left m) (λ edit adds goes set. ((adds set).0, ltb-true (edit_key edit) m goes))
 
-right_edits : (l m h : ℕ) (edits : List Call) → AllByRecursion (Adds (IsIn l h)) edits
+pub right_edits : (l m h : ℕ) (edits : List Call) → AllByRecursion (Adds (IsIn l h)) edits
     → AllByRecursion (Adds (IsIn m h)) (filter (goes_right m) edits)
 right_edits l m h = every_filter (Adds (IsIn l h)) (Adds (IsIn m h)) (goes_right m) (λ edit adds goes set. (leb-true m (edit_key edit) goes, (adds set).1))
 

@@ -1,2 +1,4 @@
 pub mod HeldRows
 pub mod RisingRows
+pub mod RisingLows
+pub mod TopLevels

@@ -8,11 +8,11 @@
 // So prefixes that stand before 2 are in a, those from 2 on in b, and those from 44 on in c. It is 264 bytes wide. The
 // separators stand side by side in words, so that a search compares eight of them at once where they are. One word fewer
 // counts than there are children, and the last one never does: it makes the room a multiple of eight.
-ghost use Rattle.std.specs.Prelude.{◌≡◌, ◌≤◌, ◌<◌, ◌+◌, length, take, count_by, nat_le, slice_get, Some};
+ghost use Rattle.std.specs.Prelude.{◌≡◌, ◌≤◌, ◌<◌, ◌+◌, [], length, map, take, count_by, nat_le, slice_get, Some};
 ghost use Rattle.std.specs.List.Sorted.{IsStrictlyIncreasing};
-ghost use Rattle.palm_node.specs.InnerNode.{IsInner};
+ghost use Rattle.palm_node.specs.InnerNode.{IsInner, later_lows, inner_over};
 
-use crate::id::NodeId;
+use crate::id::{NodeId, Piece};
 use arrayvec::ArrayVec;
 use palm_base::MOST_CHILDREN;
 use palm_lanes::count_at_most;
@@ -59,6 +59,24 @@ fn put_separators(room: &mut [u64; MOST_CHILDREN], seps: &[u64])
     room[..seps.len()].copy_from_slice(seps);
 }
 
+// Lists the ids and the lows of pieces.
+fn list_pieces(
+    pieces: &[Piece],
+    ids: &mut ArrayVec<NodeId, MOST_CHILDREN>,
+    lows: &mut ArrayVec<u64, MOST_CHILDREN>,
+)
+    requires few { length pieces.now ≤ MOST_CHILDREN }
+    requires no_ids { ids.old.items ≡ [] }
+    requires no_lows { lows.old.items ≡ [] }
+    ensures ids { ids.new.items ≡ map (λ piece. piece.id) pieces.now }
+    ensures lows { lows.new.items ≡ map (λ piece. piece.low) pieces.now }
+{
+    for piece in pieces {
+        ids.push(piece.id);
+        lows.push(piece.low);
+    }
+}
+
 impl Inner {
     /// The inner node of these children, with these separators between them. It takes no memory.
     pub fn from_children(children: &[NodeId], seps: &[u64]) -> Inner
@@ -77,6 +95,19 @@ impl Inner {
             children: room,
             separators,
         }
+    }
+
+    /// The inner node over pieces, each of which begins at its low. That of the first isn't asked. It takes no memory.
+    pub fn over(pieces: &[Piece]) -> Inner
+        requires some { 1 ≤ length pieces.now }
+        requires few { length pieces.now ≤ MOST_CHILDREN }
+        requires rising { IsStrictlyIncreasing (later_lows pieces.now) }
+        ensures { result ≡ inner_over pieces.now }
+    {
+        let mut ids = ArrayVec::new();
+        let mut lows = ArrayVec::new();
+        list_pieces(pieces, &mut ids, &mut lows);
+        Inner::from_children(&ids, &lows[1..])
     }
 
     /// The number of children.

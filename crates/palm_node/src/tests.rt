@@ -237,3 +237,19 @@ fn has_nodes_of_the_stated_widths(rt: HostRuntime) {
     assert_eq!(rt; size_of::<Leaf>(), 264);
     assert_eq!(rt; size_of::<Inner>(), 264);
 }
+
+#[test]
+fn a_node_over_pieces_has_their_lows_between_them(rt: HostRuntime) -> Result<(), Fail> {
+    let piece = |low: u64, place: usize| Piece {
+        low,
+        id: NodeId { place },
+    };
+    let inner = Inner::over(&[piece(3, 7), piece(20, 8), piece(30, 9)]);
+    assert_eq!(rt; inner.len(), 3);
+    assert!(rt; inner.child(0).place == 7 && inner.child(2).place == 9);
+    assert_eq!(rt; inner.separator(0), 20);
+    assert_eq!(rt; inner.separator(1), 30);
+    assert_eq!(rt; inner.route(19), 0);
+    assert_eq!(rt; inner.route(30), 2);
+    Ok(())
+}

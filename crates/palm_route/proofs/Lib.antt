@@ -1,1 +1,13 @@
--- No lemmas.
+pub mod AddedParts
+pub mod Ascents
+pub mod Descents
+pub mod GroupedParts
+pub mod JoinedParts
+pub mod LaterLows
+pub mod LeavesUnder
+pub mod ListLeaves
+pub mod LowWalks
+pub mod PartEdits
+pub mod PartSteps
+pub mod Routings
+pub mod SortedParts

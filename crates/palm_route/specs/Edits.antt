@@ -1,5 +1,6 @@
 -- The edits among parts.
 use Rattle.std.specs.Prelude.{ℕ, List, [], ◌∷◌}
+use Rattle.palm_base.specs.Prefix.{IsPrefix}
 use Rattle.palm_base.specs.Key.{digits_of}
 use Rattle.palm_base.specs.declared.call.Call.{Call}
 use Rattle.palm_base.specs.declared.call.Call.TheVariants as call
@@ -18,3 +19,11 @@ edit_before key (ask.List from to limit) edits = edits
 abbrev pub edits_of : List Part → List Call
 edits_of [] = []
 edits_of (part ∷ parts) = edit_before part.key part.ask (edits_of parts)
+
+-- A Set or a Del is of a prefix. So Set 44 5 is, and of other calls nothing is asked.
+abbrev pub EditsPrefix : Call → Type 0
+EditsPrefix (call.Set prefix rate) = IsPrefix prefix
+EditsPrefix (call.Del prefix) = IsPrefix prefix
+EditsPrefix (call.Get prefix) = Unit {0}
+EditsPrefix (call.Rate number) = Unit {0}
+EditsPrefix (call.List from to limit) = Unit {0}

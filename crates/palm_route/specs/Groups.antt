@@ -1,5 +1,5 @@
 -- Parts at the leaves that they are routed to, and put together by leaf.
-use Rattle.std.specs.Prelude.{◌≡◌, ℕ, ◌<◌, ◌==◌, nat_lt, nat_le, if◌then◌else◌, List, [], ◌∷◌, ◌++◌, filter, Some}
+use Rattle.std.specs.Prelude.{◌≡◌, ◌<◌, nat_lt, nat_le, List, [], ◌∷◌, ◌++◌, filter, Some}
 use Rattle.std.specs.List.{AllByRecursion}
 use Rattle.palm_arena.specs.Leaves.{LeafPlace, leaf_for}
 use Rattle.palm_route.specs.declared.part.Part.{Part}

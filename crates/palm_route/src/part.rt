@@ -28,7 +28,7 @@ pub enum Ask {
 }
 
 /// A part of a call, which one leaf answers.
-#[derive(Debug, Drop)]
+#[derive(Clone, Debug, Drop)]
 pub struct Part {
     /// The place of the call's entry in the batch, counted from 0.
     pub entry: u64,
@@ -40,7 +40,7 @@ pub struct Part {
 }
 
 /// A part with the leaf whose range has its key.
-#[derive(Debug, Drop)]
+#[derive(Clone, Debug, Drop)]
 pub struct Routed {
     pub part: Part,
     /// The leaf.

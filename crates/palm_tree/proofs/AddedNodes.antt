@@ -1,7 +1,6 @@
 -- The nodes over the pieces of a level, put into an arena one after another.
-use Rattle.std.proofs.Common.{◌≡◌, ℕ, zero, suc, ◌+◌, ◌<◌, ◌≤◌, cond, List, [], ◌∷◌, ◌++◌, length, map, take, drop, Option, refl, sym, ap, subst, arith, ◌∙◌}
+use Rattle.std.proofs.Common.{◌≡◌, ℕ, suc, ◌+◌, ◌<◌, ◌≤◌, cond, List, [], ◌∷◌, ◌++◌, length, map, take, drop, Option, refl, sym, ap, subst, arith, ◌∙◌}
 use Rattle.std.specs.Prelude.{◌==◌}
-use Rattle.std.specs.List.{AllByRecursion}
 use Rattle.std.specs.List.Sorted.{IsStrictlyIncreasing}
 use Rattle.palm_base.specs.Cut.{piece_count, piece_size}
 use Rattle.palm_base.specs.Tree.{Subtree}
@@ -18,45 +17,11 @@ use Rattle.palm_arena.specs.Reads.{map_of, reads}
 use Rattle.palm_arena.specs.declared.place.Place.{Place}
 use Rattle.palm_arena.specs.declared.place.Place.TheVariants.{Holds}
 use Rattle.palm_arena.proofs.Standing.{none_lent_after_put}
-use Rattle.palm_tree.specs.Levels.{piece_lows, piece_ids, ReadAs, IsLevel, IsRaised, Rise}
+use Rattle.palm_tree.specs.Levels.{piece_lows, piece_ids, ReadAs, IsLevel, IsRaised}
+use Rattle.palm_node.specs.InnerNode.{Rise}
+use Rattle.palm_node.proofs.RisingLows.{rise_increasing, later_take, later_drop}
 use Rattle.palm_tree.proofs.PieceReads.{IsBetween, read_length, read_lows, read_take, node_added, between_first, between_last}
 use Rattle.palm_base.proofs.CutSteps.{pieces_left, IsCutTo, left_first, left_next, left_last, cut_first, cut_next, next_fits, cut_last, later_nodes, next_own, nodes_next, nodes_last}
-
--- ---- rising lows
-
-pub rise_increasing : (numbers : List ℕ) → Rise numbers → IsStrictlyIncreasing numbers
-rise_increasing [] rise k less = absurd (omega arith)
-rise_increasing (x ∷ []) rise k less = absurd (omega arith)
-rise_increasing (x ∷ y ∷ ys) rise zero less = rise.0.0
-rise_increasing (x ∷ y ∷ ys) rise (suc k) less =
-    let e : suc k + 1 ≡ suc (k + 1) = omega arith in
-    rw e (rise_increasing (y ∷ ys) rise.1 k (omega (arith, less)))
-
-low_take : (P : ℕ → Type 0) (k : ℕ) (pieces : List Piece) → AllByRecursion P (piece_lows pieces) → AllByRecursion P (piece_lows (take k pieces))
-low_take P zero pieces all = tt
-low_take P (suc k) [] all = tt
-low_take P (suc k) (piece ∷ pieces) all = (all.0, low_take P k pieces all.1)
-
-rise_take : (k : ℕ) (pieces : List Piece) → Rise (piece_lows pieces) → Rise (piece_lows (take k pieces))
-rise_take zero pieces rise = tt
-rise_take (suc k) [] rise = tt
-rise_take (suc k) (piece ∷ pieces) rise = (low_take _ k pieces rise.0, rise_take k pieces rise.1)
-
-rise_drop : (k : ℕ) (pieces : List Piece) → Rise (piece_lows pieces) → Rise (piece_lows (drop k pieces))
-rise_drop zero pieces rise = rise
-rise_drop (suc k) [] rise = tt
-rise_drop (suc k) (piece ∷ pieces) rise = rise_drop k pieces rise.1
-
--- The lows past the first of a front rise, and so do those of the rest.
-later_take : (k : ℕ) (pieces : List Piece) → Rise (piece_lows (drop 1 pieces)) → Rise (piece_lows (drop 1 (take k pieces)))
-later_take zero pieces rise = tt
-later_take (suc k) [] rise = tt
-later_take (suc k) (piece ∷ pieces) rise = rise_take k pieces rise
-
-later_drop : (k : ℕ) (pieces : List Piece) → Rise (piece_lows (drop 1 pieces)) → Rise (piece_lows (drop 1 (drop k pieces)))
-later_drop zero pieces rise = rise
-later_drop (suc k) [] rise = tt
-later_drop (suc k) (piece ∷ pieces) rise = rise_drop 1 (drop k pieces) (rise_drop k pieces rise)
 
 -- ---- the nodes so far
 

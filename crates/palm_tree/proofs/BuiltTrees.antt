@@ -15,7 +15,7 @@ use Rattle.palm_arena.specs.ArenaState.{ArenaState, NoneLent}
 use Rattle.palm_arena.specs.Reads.{map_of, IsWhole}
 use Rattle.palm_arena.specs.declared.shape.Shape.{Shape}
 use Rattle.palm_tree.specs.TreeValue.{tree_of, HoldsTree}
-use Rattle.palm_tree.proofs.Builds.{leaf_top, leaves_lawful, built}
+use Rattle.palm_base.proofs.Builds.{leaf_top, leaves_lawful, built}
 
 empty_tree : Tree
 empty_tree = (zero, [])

@@ -12,7 +12,7 @@ use Rattle.palm_node.specs.InnerNode.{InnerNode}
 use Rattle.palm_node.specs.declared.id.NodeId.{NodeId}
 use Rattle.palm_arena.specs.declared.place.Place.{Place}
 use Rattle.palm_tree.specs.Below.{rows_below}
-use Rattle.palm_tree.specs.Routes.{route_of}
+use Rattle.palm_arena.specs.Routes.{route_of}
 use Rattle.palm_tree.proofs.Children.{HasChildren}
 use Rattle.palm_tree.proofs.Limits.{none_yet, one_more, no_more}
 use Rattle.palm_tree.proofs.Ranges.{within-under, within-from}

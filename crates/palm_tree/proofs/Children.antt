@@ -19,9 +19,9 @@ use Rattle.palm_arena.specs.Reads.{map_of, reads, leaf_in}
 use Rattle.palm_arena.specs.declared.place.Place.{Place}
 use Rattle.palm_tree.specs.Below.{IsOrdered, HasNodeBelow, rows_read, rows_below}
 use Rattle.palm_tree.specs.TreeValue.{tree_over, tree_of, HoldsTree}
-use Rattle.palm_tree.specs.Routes.{separators_of, route_of}
+use Rattle.palm_arena.specs.Routes.{separators_of, route_of}
 use Rattle.palm_tree.proofs.Descents.{leads}
-use Rattle.palm_tree.proofs.Readings.{ReadsOver, inner_reads, leaf_reads}
+use Rattle.palm_arena.proofs.Readings.{ReadsOver, inner_reads, leaf_reads}
 use Rattle.palm_tree.proofs.Standing.{root_ordered, sound_ordered, inner_same}
 use Rattle.palm_tree.proofs.Values.{value_reads}
 

@@ -11,7 +11,7 @@ use Rattle.palm_base.proofs.RisingRows.{rising_range, under_range, from_range}
 use Rattle.palm_base.proofs.SoundNodes.{sound_rises, in_order_rises}
 use Rattle.palm_base.proofs.TableSplits.{Under, From}
 use Rattle.palm_base.specs.declared.row.Row.{Row}
-use Rattle.palm_tree.specs.Routes.{separators_of, route_of}
+use Rattle.palm_arena.specs.Routes.{separators_of, route_of}
 
 -- ---- the rate of a key among rows on two sides
 

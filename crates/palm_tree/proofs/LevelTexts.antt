@@ -13,7 +13,7 @@ use Rattle.palm_arena.specs.Reads.{reads, inner_in, child_ids}
 use Rattle.palm_base.proofs.Appended.{append_next}
 use Rattle.palm_base.proofs.Every.{every_append}
 use Rattle.palm_tree.specs.Walk.{inner_text, node_text, nodes_text, ids_below, levels_text, IsPrintable, ArePrintable}
-use Rattle.palm_tree.proofs.Readings.{ReadsOver, inner_reads, leaf_reads}
+use Rattle.palm_arena.proofs.Readings.{ReadsOver, inner_reads, leaf_reads}
 
 -- ---- one level
 

@@ -1,6 +1,5 @@
 pub mod AddedLeaves
 pub mod AddedNodes
-pub mod Builds
 pub mod BuiltTrees
 pub mod ChildParts
 pub mod Children
@@ -16,6 +15,5 @@ pub mod Lists
 pub mod NewNodes
 pub mod PieceReads
 pub mod Ranges
-pub mod Readings
 pub mod Standing
 pub mod Values

@@ -14,7 +14,7 @@ use Rattle.palm_arena.specs.declared.place.Place.{Place}
 use Rattle.palm_arena.specs.declared.place.Place.TheVariants.{Holds}
 use Rattle.palm_arena.proofs.Keeping.{same_id}
 use Rattle.palm_arena.proofs.Standing.{others_stay}
-use Rattle.palm_tree.proofs.Readings.{leaf_reads}
+use Rattle.palm_arena.proofs.Readings.{leaf_reads}
 
 -- A map has every node that another has, at its id.
 abbrev pub Extends : (NodeId → Option Node) → (NodeId → Option Node) → Type 0

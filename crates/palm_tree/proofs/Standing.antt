@@ -14,10 +14,10 @@ use Rattle.palm_arena.specs.ArenaState.{ArenaState}
 use Rattle.palm_arena.specs.Reads.{map_of, reads}
 use Rattle.palm_arena.specs.declared.shape.Shape.{Shape}
 use Rattle.palm_tree.specs.Below.{IsOrdered}
-use Rattle.palm_tree.specs.Routes.{separators_of, route_of}
+use Rattle.palm_arena.specs.Routes.{separators_of, route_of}
 use Rattle.palm_tree.specs.TreeValue.{tree_of, HoldsTree}
 use Rattle.palm_tree.proofs.Descents.{Leads, leads}
-use Rattle.palm_tree.proofs.Readings.{ReadsOver, inner_reads, leaf_reads}
+use Rattle.palm_arena.proofs.Readings.{ReadsOver, inner_reads, leaf_reads}
 use Rattle.palm_tree.proofs.Values.{value_reads}
 
 pub root_ordered : (n high : ℕ) (node : Subtree n) → Root n high node → IsOrdered n node

@@ -1,6 +1,6 @@
 -- A level of a tree as it is built up: the nodes that have no node over them yet.
-use Rattle.std.specs.Prelude.{◌≡◌, ℕ, ◌<◌, count_by, List, [], ◌∷◌, map, Option, None, Some}
-use Rattle.std.specs.List.{flat_map, AllByRecursion}
+use Rattle.std.specs.Prelude.{◌≡◌, ℕ, count_by, List, map, Option, None, Some}
+use Rattle.std.specs.List.{flat_map}
 use Rattle.std.proofs.Common.{suc}
 use Rattle.palm_base.specs.Tree.{Subtree}
 use Rattle.palm_base.specs.Pass.{nodes_over}
@@ -50,8 +50,3 @@ pub record IsLevel (nodes : NodeId → Option Node) (n : ℕ) (pieces : List Pie
 abbrev pub IsRaised : List Place → List Piece → List Place → List Piece → Type 0
 IsRaised old pieces new made =
     (n : ℕ) (children : List (ℕ × Subtree n)) → IsLevel (map_of old) n pieces children → IsLevel (map_of new) (suc n) made (nodes_over 0 children)
-
--- Each number is below all later ones. So 3, 7, 9 rise.
-abbrev pub Rise : List ℕ → Type 0
-Rise [] = Unit {0}
-Rise (first ∷ later) = AllByRecursion (λ number. first < number) later × Rise later

@@ -6,8 +6,7 @@
 //     rows     1 .. 16 | 17 .. 32 | ..  | 286 .. 300      19 leaves of 16 or 15 rows
 //     level 1  leaves 1 .. 10        | leaves 11 .. 19     2 nodes of 10 and 9 children
 //     level 2  both of them                                the root
-ghost use Rattle.std.specs.Prelude.{◌≡◌, ◌<◌, ◌≤◌, ◌==◌, if◌then◌else◌, [], length, map, drop, IfOk, OnOk, None, IsSome};
-ghost use Rattle.std.specs.List.Sorted.{IsStrictlyIncreasing};
+ghost use Rattle.std.specs.Prelude.{◌≡◌, ◌<◌, ◌≤◌, ◌==◌, if◌then◌else◌, [], length, map, IfOk, OnOk, None, IsSome};
 ghost use Rattle.std.proofs.Common.{zero};
 ghost use Rattle.palm_base.specs.Table.{row_key, IsTable};
 ghost use Rattle.palm_base.specs.Lows.{PrefixesHold};
@@ -15,14 +14,14 @@ ghost use Rattle.palm_base.specs.Pass.{first_low, leaves_of, top, set_of, batch_
 ghost use Rattle.palm_node.specs.LeafRows.{IsLeaf};
 ghost use Rattle.palm_arena.specs.ArenaState.{NoneLent};
 ghost use Rattle.palm_arena.specs.Reads.{map_of, IsWhole};
-ghost use Rattle.palm_tree.specs.Levels.{piece_lows, piece_ids, IsLevel, IsRaised, Rise};
+ghost use Rattle.palm_node.specs.InnerNode.{Rise, later_lows};
+ghost use Rattle.palm_tree.specs.Levels.{IsLevel, IsRaised};
 ghost use Rattle.palm_tree.specs.TreeValue.{tree_of};
 
 use crate::tree::Tree;
-use arrayvec::ArrayVec;
 use palm_arena::{Arena, Shape};
 use palm_base::{MOST_CHILDREN, MOST_LEAF_ROWS, NoMemory, Row, RowList, Steps};
-use palm_node::{Inner, Leaf, Node, NodeId, Piece, PieceList, piece_size, pieces};
+use palm_node::{Inner, Leaf, Node, Piece, PieceList, piece_size, pieces};
 use std::alloc::Global;
 use std::marker::Brand;
 use std::sync::ledger::{Blank, Ledger};
@@ -83,38 +82,6 @@ fn add_leaves<L: Ledger>(
     Ok(leaves)
 }
 
-// Lists the ids and the lows of pieces.
-fn list_parts(
-    pieces: &[Piece],
-    ids: &mut ArrayVec<NodeId, MOST_CHILDREN>,
-    lows: &mut ArrayVec<u64, MOST_CHILDREN>,
-)
-    requires few { length pieces.now ≤ MOST_CHILDREN }
-    requires no_ids { ids.old.items ≡ [] }
-    requires no_lows { lows.old.items ≡ [] }
-    ensures ids { ids.new.items ≡ piece_ids pieces.now }
-    ensures lows { lows.new.items ≡ piece_lows pieces.now }
-{
-    for piece in pieces {
-        ids.push(piece.id);
-        lows.push(piece.low);
-    }
-}
-
-// The inner node over pieces, which stand from their lows on. The low of the first one isn't asked.
-fn inner_over(pieces: &[Piece]) -> Inner
-    requires some { 1 ≤ length pieces.now }
-    requires few { length pieces.now ≤ MOST_CHILDREN }
-    requires rising { IsStrictlyIncreasing (piece_lows (drop 1 pieces.now)) }
-    ensures children { result.children ≡ piece_ids pieces.now }
-    ensures separators { result.separators ≡ piece_lows (drop 1 pieces.now) }
-{
-    let mut ids = ArrayVec::new();
-    let mut lows = ArrayVec::new();
-    list_parts(pieces, &mut ids, &mut lows);
-    Inner::from_children(&ids, &lows[1..])
-}
-
 // Puts the nodes into an arena that stand over the pieces of a level, and lists them.
 fn add_level<L: Ledger>(
     alloc: Global,
@@ -122,7 +89,7 @@ fn add_level<L: Ledger>(
     arena: &mut Arena,
     steps: &mut Steps<L>,
 ) -> Result<PieceList, NoMemory>
-    requires rising { Rise (piece_lows (drop 1 level.now)) }
+    requires rising { Rise (later_lows level.now) }
     requires under_way { IsSome arena.old.begun }
     requires none_lent { NoneLent arena.old.places }
     ensures level { IfOk result (λ made. IsRaised arena.old.places level.now arena.new.places made) }
@@ -134,7 +101,7 @@ fn add_level<L: Ledger>(
     for i in 0..pieces(MOST_CHILDREN, level.len()) {
         let (part, later) = rest.split_at(piece_size(MOST_CHILDREN, level.len(), i));
         let low = next_low(&made, first_piece_low(part));
-        let id = arena.take(Node::Inner(inner_over(part)), steps)?;
+        let id = arena.take(Node::Inner(Inner::over(part)), steps)?;
         made.push(Piece { low, id })?;
         rest = later;
     }

@@ -7,7 +7,7 @@ use Rattle.palm_node.specs.declared.id.NodeId.{NodeId}
 use Rattle.palm_node.specs.declared.node.Node.{Node}
 use Rattle.palm_node.specs.declared.node.Node.TheVariants.{Leaf, Inner}
 use Rattle.palm_base.specs.Lawful.{next_low}
-use Rattle.palm_tree.specs.Routes.{separators_of}
+use Rattle.palm_arena.specs.Routes.{separators_of}
 use Rattle.palm_arena.specs.Reads.{with_child, children_at, leaf_in, inner_in, children_in, reads}
 
 -- Where children read at their ids: there are as many, these are their lows, and each reads.

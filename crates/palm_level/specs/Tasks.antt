@@ -1,0 +1,299 @@
+-- The work on the touched nodes of a level, while their nodes are lent, and what it comes to.
+use Rattle.std.specs.Prelude.{◌≡◌, ◌+◌, ◌-◌, ℕ, Bool, true, false, if◌then◌else◌, List, [], ◌∷◌, ◌++◌, length, map, drop, reverse, sum_by, ◌≢◌, Option, None, Some, IsSome}
+use Rattle.std.specs.List.{flat_map, AllByRecursion}
+use Rattle.palm_node.specs.InnerNode.{InnerNode}
+use Rattle.palm_node.specs.declared.id.NodeId.{NodeId}
+use Rattle.palm_node.specs.declared.id.Piece.{Piece}
+use Rattle.palm_node.specs.declared.node.Node.{Node}
+use Rattle.palm_node.specs.declared.node.Node.TheVariants.{Inner}
+use Rattle.palm_node.specs.declared.change.Change.{Change}
+use Rattle.palm_node.specs.declared.change.Changes.{Changes}
+use Rattle.palm_node.specs.declared.change.Removed.{Removed}
+use Rattle.palm_arena.specs.declared.place.Place.{Place}
+use Rattle.palm_arena.specs.declared.place.Place.TheVariants.{Empty, Lent, Holds}
+use Rattle.palm_arena.specs.ArenaState.{ArenaState, IsLent, place_at, node_at, with_place}
+use Rattle.palm_arena.specs.Reads.{map_of, inner_in, same_place}
+use Rattle.palm_arena.specs.Cells.{Cell, Turns}
+use Rattle.palm_level.specs.Splices.{children_left}
+use Rattle.palm_level.specs.Works.{IsReady, HasRun, first_node, parts_left, part_over}
+use Rattle.palm_level.specs.Groups.{Touched, Group, cells_at, named_pieces, is_still, group_nodes, cells_before, cells_after, group_change, group_removed}
+use Rattle.palm_level.specs.Plans.{CanWork, touched_by, planned_key}
+use Rattle.palm_level.specs.declared.node_work.Part.{Part}
+use Rattle.palm_level.specs.declared.node_work.LevelWork.{LevelWork}
+use Rattle.palm_level.specs.declared.plan.Planned.{Planned}
+use Rattle.palm_level.specs.declared.plan.Room.{Room}
+use Rattle.palm_level.specs.declared.task.Task.{Task}
+
+-- ---- what is lent
+
+-- How often a place is lent: once where it is.
+abbrev pub lent_at : Place → ℕ
+lent_at Empty = 0
+lent_at Lent = 1
+lent_at (Holds node) = 0
+
+abbrev pub times_if : Bool → ℕ
+times_if true = 1
+times_if false = 0
+
+-- How often a work, or a task, has the lease of an id.
+abbrev pub times_worked : NodeId → Option LevelWork → ℕ
+times_worked id None = 0
+times_worked id (Some work) = times_if (same_place work.lease.id id)
+
+abbrev pub times_in : NodeId → Option Task → ℕ
+times_in id None = 0
+times_in id (Some task) = times_worked id task.work
+
+-- The leases of the tasks are of the places that are lent, one each.
+abbrev pub LentTo : List Place → List (Option Task) → Type 0
+LentTo places tasks = (id : NodeId) → sum_by (times_in id) tasks ≡ lent_at (place_at places id)
+
+-- The leases of one task come home.
+abbrev pub ComesHome : List Place → List Place → Option LevelWork → Type 0
+ComesHome old new work = (id : NodeId) → lent_at (place_at new id) + times_worked id work ≡ lent_at (place_at old id)
+
+-- ---- what a task is of
+
+abbrev pub no_one : Touched
+no_one = record { id = record { place = 0 }; path = []; low = 0; changes = [] }
+
+abbrev pub task_key : Option Task → Touched
+task_key None = no_one
+task_key (Some task) = touched_by task.parent
+
+-- A node at an id, where there is one.
+abbrev pub cell_in : NodeId → Option Node → List Cell
+cell_in id None = []
+cell_in id (Some node) = (id, node) ∷ []
+
+-- The cell of a touched node, where it is lent.
+abbrev pub lent_of : (NodeId → Option Node) → Touched → List Cell
+lent_of nodes touched = let own = cell_in touched.id (nodes touched.id) in if is_still touched.changes then [] else own
+
+-- A work may run on the node that a map has at an id.
+abbrev pub WorkIsReady : (NodeId → Option Node) → NodeId → List Change → Option LevelWork → Type 0
+WorkIsReady nodes id changes None = is_still changes ≡ true
+WorkIsReady nodes id changes (Some work) =
+    (is_still changes ≡ false) × (work.lease.id ≡ id) × (nodes id ≡ Some work.lease.node) × (work.changes.now ≡ changes) × IsReady work
+
+-- A task is ready: its node is an inner node of the map, that is lent to it where its children changed in number or place.
+abbrev pub TaskIsReady : (NodeId → Option Node) → Option Task → Type 0
+TaskIsReady nodes None = ⊥
+TaskIsReady nodes (Some task) = CanWork nodes task.parent.node task.parent.changes.now × WorkIsReady nodes task.parent.node task.parent.changes.now task.work
+
+-- A work has made the node anew that a map had at an id.
+abbrev pub WorkIsDone : (NodeId → Option Node) → NodeId → List Change → Option LevelWork → Type 0
+WorkIsDone nodes id changes None = is_still changes ≡ true
+WorkIsDone nodes id changes (Some work) =
+    (is_still changes ≡ false) × (work.lease.id ≡ id)
+    × ((node : InnerNode) → nodes id ≡ Some (Inner node)
+    → (work.lease.node ≡ Inner (first_node node (parts_left node changes)))
+    × (work.children.items ≡ children_left node changes)
+    × (work.later.items ≡ map part_over (drop 1 (parts_left node changes))))
+
+abbrev pub TaskIsDone : (NodeId → Option Node) → Option Task → Type 0
+TaskIsDone nodes None = ⊥
+TaskIsDone nodes (Some task) = CanWork nodes task.parent.node task.parent.changes.now × WorkIsDone nodes task.parent.node task.parent.changes.now task.work
+
+-- ---- when a task may run, and what it leaves
+
+abbrev pub WorkMayRun : Option LevelWork → Type 0
+WorkMayRun None = Unit {0}
+WorkMayRun (Some work) = IsReady work
+
+abbrev pub WorkRan : Option LevelWork → Option LevelWork → Type 0
+WorkRan None None = Unit {0}
+WorkRan None (Some after) = ⊥
+WorkRan (Some before) None = ⊥
+WorkRan (Some before) (Some after) = HasRun before after
+
+pub record TaskRan (before after : Task) : Type 0 where
+  pub parent : touched_by after.parent ≡ touched_by before.parent
+  pub work : WorkRan before.work after.work
+
+-- What lends a node to a work, where there is room for one: the node of its parent.
+abbrev pub WorkStarts : Planned → ArenaState → ArenaState → Option Room → Option LevelWork → Type 0
+WorkStarts planned old new None None = new ≡ old
+WorkStarts planned old new None (Some work) = ⊥
+WorkStarts planned old new (Some room) None = ⊥
+WorkStarts planned old new (Some room) (Some work) =
+    (work.lease.id ≡ planned.parent.node) × (node_at old.places planned.parent.node ≡ Some work.lease.node)
+    × (work.changes.now ≡ planned.parent.changes.now) × (work.children ≡ room.children) × (work.later ≡ room.later)
+    × (new ≡ record old { places = with_place old.places planned.parent.node Lent; moved = old.moved ++ planned.parent.node ∷ [] })
+
+pub record Starts (planned : Planned) (old new : ArenaState) (task : Task) : Type 0 where
+  pub key : touched_by task.parent ≡ touched_by planned.parent
+  pub work : WorkStarts planned old new planned.room task.work
+
+-- The node of what is planned is in the arena, where it is to be lent.
+abbrev pub IsThere : List Place → Planned → Option Room → Type 0
+IsThere places planned None = Unit {0}
+IsThere places planned (Some room) = IsSome (node_at places planned.parent.node)
+
+-- ---- what stands for a node afterwards
+
+-- A node that stays as it is stands for itself; another is what its work leaves of it.
+abbrev pub itself : Touched → Change
+itself touched = record { node = touched.id; path = touched.path; pieces = record { low = touched.low; id = touched.id } ∷ [] }
+
+abbrev pub change_for : Group → Change
+change_for group = let made = group_change group in if is_still group.touched.changes then itself group.touched else made
+
+abbrev pub removed_for : ℕ → Group → List Removed
+removed_for level group = let made = group_removed level group in if is_still group.touched.changes then [] else made
+
+abbrev pub lent_for : Group → List Cell
+lent_for group = let own = cells_before group in if is_still group.touched.changes then [] else own
+
+abbrev pub made_for : Group → List Cell
+made_for group = let made = cells_after group in if is_still group.touched.changes then [] else made
+
+-- The group has the node that a map had at its id, and as many ids as there is left of it.
+pub record IsGroup (nodes : NodeId → Option Node) (group : Group) : Type 0 where
+  pub held : nodes group.touched.id ≡ Some (Inner group.node)
+  pub ids : is_still group.touched.changes ≡ false → length group.ids ≡ length (group_nodes group)
+
+-- How many nodes a group takes.
+abbrev pub taken_for : Group → ℕ
+taken_for group = let made = length (group_nodes group) - 1 in if is_still group.touched.changes then 0 else made
+
+-- The arena after a task gave its node back and took the ids that it needs, and the changes with what became of the node.
+pub record Finishes (nodes : NodeId → Option Node) (level : ℕ) (touched : Touched) (old new : ArenaState) (before after : Changes) : Type 0 where
+  pub group : Group
+  pub is : group.touched ≡ touched
+  pub is-group : IsGroup nodes group
+  pub turns : Turns (map_of old.places) (map_of new.places) [] (made_for group)
+  pub changed : after.nodes ≡ before.nodes ++ change_for group ∷ []
+  pub removed : after.removed ≡ before.removed ++ removed_for level group
+  pub loose : after.loose ≡ before.loose
+
+-- ---- giving back
+
+-- A node and its low, of a later part.
+abbrev pub as_node : Part → ℕ × InnerNode
+as_node part = (part.low, part.node)
+
+-- Parts took ids, and were listed as pieces.
+pub record Took (old new : ArenaState) (before after : List Piece) (parts : List Part) : Type 0 where
+  pub ids : List NodeId
+  pub many : length ids ≡ length parts
+  pub pieces : after ≡ before ++ named_pieces ids (map as_node parts)
+  pub turns : Turns (map_of old.places) (map_of new.places) [] (cells_at ids (map as_node parts))
+
+-- As many places are lent as before, each the same.
+abbrev pub SameLent : List Place → List Place → Type 0
+SameLent old new = (id : NodeId) → lent_at (place_at new id) ≡ lent_at (place_at old id)
+
+-- A work has made this node anew over what stands for these changes.
+pub record MadeOf (node : InnerNode) (changes : List Change) (work : LevelWork) : Type 0 where
+  pub own : work.lease.node ≡ Inner (first_node node (parts_left node changes))
+  pub children : work.children.items ≡ children_left node changes
+  pub later : work.later.items ≡ map part_over (drop 1 (parts_left node changes))
+
+-- A group's node was put back, with what is left of it under its ids.
+pub record PutsBack (level : ℕ) (group : Group) (old new : ArenaState) (before after : List Removed) (pieces : List Piece) : Type 0 where
+  pub many : length group.ids ≡ length (group_nodes group)
+  pub turns : Turns (map_of old.places) (map_of new.places) [] (cells_after group)
+  pub pieces-are : pieces ≡ named_pieces group.ids (group_nodes group)
+  pub removed : after ≡ before ++ group_removed level group
+
+-- Whatever it was that the work made anew, it is put back.
+abbrev pub PutsBackAny : ℕ → ℕ → LevelWork → ArenaState → ArenaState → List Removed → List Removed → List Piece → Type 0
+PutsBackAny level low work old new before after pieces =
+    (node : InnerNode) (changes : List Change) (path : List (NodeId × ℕ)) → MadeOf node changes work
+    → (ids : List NodeId) × PutsBack level (record { touched = record { id = work.lease.id; path = path; low = low; changes = changes }; node = node; ids = ids }) old new before after pieces
+
+abbrev pub later_count : Option LevelWork → ℕ
+later_count None = 0
+later_count (Some work) = length work.later.items
+
+abbrev pub WorkIsLent : List Place → Option LevelWork → Type 0
+WorkIsLent places None = Unit {0}
+WorkIsLent places (Some work) = IsLent places work.lease.id
+
+-- Whatever the map was in which the task's work is done, it is finished.
+abbrev pub FinishesAny : ℕ → Task → ArenaState → ArenaState → Changes → Changes → Type 0
+FinishesAny level task old new before after =
+    (nodes : NodeId → Option Node) → TaskIsDone nodes (Some task) → Finishes nodes level (touched_by task.parent) old new before after
+
+-- ---- all tasks
+
+abbrev pub planned_id : Planned → NodeId
+planned_id planned = planned.parent.node
+
+-- No id stands there twice.
+abbrev pub Distinct : List NodeId → Type 0
+Distinct [] = Unit {0}
+Distinct (id ∷ ids) = AllByRecursion (λ other. id ≢ other) ids × Distinct ids
+
+-- All that was planned is lent: the tasks are those of the parents, the last first, and may run; their nodes left the map.
+pub record HasLent (old new : ArenaState) (planned : List Planned) (tasks : List (Option Task)) : Type 0 where
+  pub keys : reverse (map task_key tasks) ≡ map planned_key planned
+  pub ready : AllByRecursion (TaskIsReady (map_of old.places)) tasks
+  pub turns : Turns (map_of old.places) (map_of new.places) (flat_map (lent_of (map_of old.places)) (map task_key tasks)) []
+
+abbrev pub IsTask : Option Task → Type 0
+IsTask None = ⊥
+IsTask (Some task) = Unit {0}
+
+abbrev pub later_of : Option Task → ℕ
+later_of None = 0
+later_of (Some task) = later_count task.work
+
+-- All tasks are finished, the last first.
+pub record FinishesAll (nodes : NodeId → Option Node) (level : ℕ) (old new : ArenaState) (tasks : List (Option Task)) (before after : Changes) : Type 0 where
+  pub groups : List Group
+  pub are : reverse (map (λ group. group.touched) groups) ≡ map task_key tasks
+  pub are-groups : AllByRecursion (IsGroup nodes) groups
+  pub turns : Turns (map_of old.places) (map_of new.places) [] (flat_map made_for groups)
+  pub changed : after.nodes ≡ before.nodes ++ map change_for groups
+  pub removed : after.removed ≡ before.removed ++ flat_map (removed_for level) groups
+  pub loose : after.loose ≡ before.loose
+
+abbrev pub HasFinished : ℕ → ArenaState → ArenaState → List (Option Task) → Changes → Changes → Type 0
+HasFinished level old new tasks before after =
+    (nodes : NodeId → Option Node) → AllByRecursion (TaskIsDone nodes) tasks → FinishesAll nodes level old new tasks before after
+
+abbrev pub TaskIsLent : List Place → Option Task → Type 0
+TaskIsLent places None = Unit {0}
+TaskIsLent places (Some task) = WorkIsLent places task.work
+
+abbrev pub TaskComesHome : List Place → List Place → Option Task → Type 0
+TaskComesHome old new task = (id : NodeId) → lent_at (place_at new id) + times_in id task ≡ lent_at (place_at old id)
+
+-- ---- what stands for one node
+
+-- The arena after a node was given back, and the pieces that stand for it.
+pub record StandsFor (nodes : NodeId → Option Node) (level : ℕ) (touched : Touched) (old new : ArenaState) (before after : List Removed) (pieces : List Piece) : Type 0 where
+  pub group : Group
+  pub is : group.touched ≡ touched
+  pub is-group : IsGroup nodes group
+  pub turns : Turns (map_of old.places) (map_of new.places) [] (made_for group)
+  pub pieces-are : record { node = touched.id; path = touched.path; pieces = pieces } ≡ change_for group
+  pub removed : after ≡ before ++ removed_for level group
+
+abbrev pub StandsForAny : ℕ → ℕ → NodeId → Option LevelWork → ArenaState → ArenaState → List Removed → List Removed → List Piece → Type 0
+StandsForAny level low id work old new before after pieces =
+    (nodes : NodeId → Option Node) (path : List (NodeId × ℕ)) (changes : List Change) → CanWork nodes id changes → WorkIsDone nodes id changes work
+    → StandsFor nodes level (record { id = id; path = path; low = low; changes = changes }) old new before after pieces
+
+-- ---- the whole level
+
+-- How many nodes a parent takes past the one that keeps its id.
+abbrev pub spare_in : Option InnerNode → List Change → ℕ
+spare_in None changes = 0
+spare_in (Some node) changes = length (drop 1 (parts_left node changes))
+
+abbrev pub spare_of : (NodeId → Option Node) → Touched → ℕ
+spare_of nodes touched = let spare = spare_in (inner_in (nodes touched.id)) touched.changes in if is_still touched.changes then 0 else spare
+
+-- All parents are worked on: what stood for them in the map gave way to what stands for them now, and they are listed.
+pub record HasWorked (nodes : NodeId → Option Node) (level : ℕ) (touched : List Touched) (new : NodeId → Option Node) (before after : Changes) : Type 0 where
+  pub groups : List Group
+  pub are : map (λ group. group.touched) groups ≡ touched
+  pub are-groups : AllByRecursion (IsGroup nodes) groups
+  pub turns : Turns nodes new (flat_map lent_for groups) (flat_map made_for groups)
+  pub changed : after.nodes ≡ before.nodes ++ map change_for groups
+  pub removed : after.removed ≡ before.removed ++ flat_map (removed_for level) groups
+  pub loose : after.loose ≡ before.loose

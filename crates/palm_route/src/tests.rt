@@ -1,0 +1,151 @@
+ghost use Rattle.std.specs.Prelude.{◌≡◌, ◌<◌, ◌≤◌, IfOk};
+ghost use Rattle.palm_arena.specs.Reads.{map_of, HasTree};
+ghost use Rattle.palm_share.specs.declared.share.TheConstants.{MOST_WORKERS};
+
+use super::*;
+use palm_arena::{Arena, Shape};
+use palm_base::{Amount, Call, Digits, Entry, Limit, NoMemory, Steps};
+use palm_node::{Leaf, Node, NodeId, Path};
+use palm_share::OpenGate;
+use std::alloc::Global;
+use std::marker::Brand;
+use std::process::Abort;
+use std::sync::ledger::{Blank, Ledger};
+use std::test::Fail;
+use std::thread::Threads;
+
+fn digits(rt: &impl Abort, prefix: &str) -> Digits {
+    Digits::read(prefix.as_bytes()).expect(rt, "a prefix")
+}
+
+// A part of an entry that looks for a prefix, at a leaf whose range begins at this key.
+fn at_leaf(entry: u64, number: u64, prefix: Digits, leaf: usize, low: u64) -> Routed {
+    Routed {
+        part: Part {
+            entry,
+            number,
+            key: prefix.key(),
+            ask: Ask::Look,
+        },
+        leaf: NodeId { place: leaf },
+        path: Path::new(),
+        low,
+    }
+}
+
+// The group is of this leaf, and its parts are of these entries.
+fn assert_group(rt: &impl Abort, group: &Group, leaf: usize, entries: &[u64]) {
+    assert_eq!(rt; group.leaf.place, leaf);
+    assert_eq!(rt; group.parts.len(), entries.len(), "parts of {leaf}");
+    for (part, entry) in group.parts.as_slice().iter().zip(entries) {
+        assert_eq!(rt; part.entry, *entry, "a part of {leaf}");
+    }
+}
+
+#[test]
+fn groups_parts_by_leaf(rt: HostRuntime) -> Result<(), Fail> {
+    // Get 26, Get 10 and List 18 19, over leaves of 10 to 18 and from 19 on
+    let second = digits(&rt, "19").key();
+    let cases = [
+        (0, 0, "26", 2, second),
+        (1, 0, "10", 1, 0),
+        (2, 0, "18", 1, 0),
+        (2, 1, "19", 2, second),
+    ];
+    let mut routed = RoutedList::new(rt.alloc());
+    for (entry, number, prefix, leaf, low) in cases {
+        routed.push(at_leaf(entry, number, digits(&rt, prefix), leaf, low))?;
+    }
+    let groups = group(&rt, rt.alloc(), routed)?;
+    assert_eq!(rt; groups.len(), 2);
+    for (i, group) in groups.into_vec().as_slice().iter().enumerate() {
+        if i == 0 {
+            assert_group(&rt, group, 1, &[1, 2]);
+        } else {
+            assert_group(&rt, group, 2, &[0, 2]);
+        }
+    }
+    Ok(())
+}
+
+#[test]
+fn groups_nothing(rt: HostRuntime) -> Result<(), Fail> {
+    let groups = group(&rt, rt.alloc(), RoutedList::new(rt.alloc()))?;
+    assert!(rt; groups.is_empty());
+    Ok(())
+}
+
+// An arena of the empty tree: a leaf of no rows.
+fn empty_tree<L: Ledger>(alloc: Global, blank: Blank) -> Result<(Arena, Shape), NoMemory>
+    requires name { blank.name ≡ L.name }
+    requires parts { blank.parts ≡ L.parts }
+    requires some { 0 < blank.parts }
+    ensures { IfOk result (λ made. HasTree (map_of made.0.places) made.1) }
+{
+    let mut steps = Steps::<L>::new(blank);
+    let mut arena = Arena::new(alloc)?;
+    arena.begin();
+    let root = arena.take(Node::Leaf(Leaf::from_rows(&[])), &mut steps)?;
+    arena.commit();
+    Ok((arena, Shape { root, levels: 1 }))
+}
+
+// One call of each kind. The List meets the one leaf there is.
+fn calls(rt: &impl Abort) -> [Call; 5] {
+    let prefix = digits(rt, "44");
+    let number = digits(rt, "442");
+    [
+        Call::Set {
+            prefix,
+            rate: Amount::new(5).expect(rt, "a rate"),
+        },
+        Call::Del { prefix },
+        Call::Get { prefix },
+        Call::Rate { number },
+        Call::List {
+            from: prefix,
+            to: number,
+            limit: Limit::new(3).expect(rt, "a limit"),
+        },
+    ]
+}
+
+// The calls have seven parts, and all of them go to the one leaf.
+fn assert_routed(
+    rt: &(impl Abort + Threads + Sync),
+    alloc: Global,
+    arena: &Arena,
+    shape: Shape,
+    workers: u32,
+) -> Result<(), NoMemory>
+    requires tree { HasTree (map_of arena.now.places) shape }
+    requires some { 1 ≤ workers }
+    requires few { workers ≤ MOST_WORKERS }
+{
+    let mut batch = Vec::new(alloc);
+    for call in calls(rt) {
+        batch.push(Entry {
+            caller: 0,
+            place: 0,
+            call,
+        })?;
+    }
+    let parts = expand(alloc, arena, shape, &batch)?;
+    assert_eq!(rt; parts.len(), 7);
+    let routed = descend(rt, alloc, arena, shape, parts, workers, &OpenGate)?;
+    let groups = group(rt, alloc, routed)?;
+    assert_eq!(rt; groups.len(), 1);
+    for group in groups.as_slice() {
+        assert_group(rt, group, shape.root.place, &[0, 1, 2, 3, 3, 3, 4]);
+    }
+    Ok(())
+}
+
+#[test]
+fn routes_each_call_to_the_leaf_of_an_empty_tree(rt: HostRuntime) -> Result<(), Fail> {
+    let (arena, shape) = empty_tree::<Brand>(rt.alloc(), Blank::new(1))?;
+    for workers in [1, 2, 3, 64] {
+        assert_routed(&rt, rt.alloc(), &arena, shape, workers)?;
+    }
+    Ok(())
+}
