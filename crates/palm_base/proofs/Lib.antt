@@ -2,6 +2,7 @@ pub mod Appended
 pub mod Batches
 pub mod Chains
 pub mod CutParts
+pub mod CutSteps
 pub mod Cuts
 pub mod Every
 pub mod Examples
@@ -28,6 +29,8 @@ pub mod PrefixRows
 pub mod Replies
 pub mod RisingRows
 pub mod RisingTables
+pub mod RowPlaces
+pub mod RowSearch
 pub mod SameTables
 pub mod Sets
 pub mod SoundNodes
@@ -35,5 +38,4 @@ pub mod TableSplits
 pub mod Tables
 pub mod Tops
 pub mod TreeExamples
-pub mod CutSteps
 pub mod Builds

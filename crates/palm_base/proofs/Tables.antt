@@ -1,11 +1,11 @@
 -- Tables: the three cases of putting a row in, that each call leaves a table, and calls one after another.
-use Rattle.std.proofs.Common.{◌≡◌, ℕ, ◌<◌, ◌≤◌, Bool, true, false, cond, not, ◌==◌, List, [], ◌∷◌, ◌++◌, filter, refl, arith, ◌⊎◌, inl, inr}
+use Rattle.std.proofs.Common.{◌≡◌, ℕ, zero, suc, ◌<◌, ◌≤◌, Bool, true, false, cond, not, ◌==◌, List, [], ◌∷◌, ◌++◌, filter, take, drop, refl, arith, ◌⊎◌, inl, inr}
 use Rattle.std.specs.List.{AllByRecursion}
 use Rattle.std.proofs.lemmas.Bool.{cases_order, lt-ltb, le-ltb, eq-eqb, ne_eqb}
 use Rattle.palm_base.specs.Key.{key}
 use Rattle.palm_base.specs.Table.{row_key, put, after, after_all, IsTable}
 use Rattle.palm_base.specs.Laws.{CallsKeepTables}
-use Rattle.palm_base.proofs.Every.{every_weaker, every_filter}
+use Rattle.palm_base.proofs.Every.{every_weaker, every_filter, every_take}
 use Rattle.palm_base.specs.declared.row.Row.{Row}
 use Rattle.palm_base.specs.declared.call.Call.{Call}
 use Rattle.palm_base.specs.declared.call.Call.TheVariants.{Set, Del, Get, Rate, List as Listing}
@@ -52,7 +52,7 @@ put_keeps new (row ∷ rows) table = by (put_keeps new rows table.1) (cases_orde
 below_filter : (k : ℕ) (p : Row → Bool) (rows : List Row) → Below k rows → Below k (filter p rows)
 below_filter k p rows = every_filter (λ later. k < row_key later) (λ later. k < row_key later) p (λ later below passes. below) rows
 
-filter_keeps : (p : Row → Bool) (rows : List Row) → IsTable rows → IsTable (filter p rows)
+pub filter_keeps : (p : Row → Bool) (rows : List Row) → IsTable rows → IsTable (filter p rows)
 filter_keeps p [] table = tt
 filter_keeps p (row ∷ rows) table = by (p row) (filter_keeps p rows table.1)
   where
@@ -70,3 +70,14 @@ calls_keep_tables rows (Listing from to limit) table = table
 pub after_all_append : (rows : List Row) (calls more : List Call) → after_all rows (calls ++ more) ≡ after_all (after_all rows calls) more
 after_all_append rows [] more = refl
 after_all_append rows (call ∷ calls) more = after_all_append (after rows call) calls more
+
+-- The first rows of a table, and those behind them.
+pub table_take : (k : ℕ) (rows : List Row) → IsTable rows → IsTable (take k rows)
+table_take zero rows table = tt
+table_take (suc k) [] table = tt
+table_take (suc k) (row ∷ rows) table = (every_take _ k rows table.0, table_take k rows table.1)
+
+pub table_drop : (k : ℕ) (rows : List Row) → IsTable rows → IsTable (drop k rows)
+table_drop zero rows table = table
+table_drop (suc k) [] table = tt
+table_drop (suc k) (row ∷ rows) table = table_drop k rows table.1

@@ -9,6 +9,7 @@ pub mod Laws
 pub mod Literal
 pub mod Lows
 pub mod Pass
+pub mod Place
 pub mod Prefix
 pub mod Shape
 pub mod Table

@@ -8,6 +8,7 @@ mod digits;
 pub mod laws;
 mod memory;
 mod row;
+mod search;
 mod steps;
 #[cfg(test)]
 mod tests;
@@ -20,4 +21,5 @@ pub use call::{Call, Entry, Reply};
 pub use digits::{Digits, DigitsFault, MOST_DIGITS};
 pub use memory::NoMemory;
 pub use row::{Row, RowList};
+pub use search::find_row;
 pub use steps::Steps;

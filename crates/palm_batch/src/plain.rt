@@ -1,10 +1,9 @@
-ghost use Rattle.std.specs.Prelude.{◌≡◌, ◌≤◌, ◌<◌, ◌+◌, ◌++◌, [], length, OnOk, OnErr, IfOk, MatchResult, vec_len, vec_capacity};
+ghost use Rattle.std.specs.Prelude.{◌≡◌, ◌≤◌, ◌<◌, ◌+◌, ◌++◌, [], length, OnOk, OnErr, IfOk, vec_len, vec_capacity};
 ghost use Rattle.palm_base.specs.Table.{answer, after, rate_at, put, without, row_key, new_or_was, or_absent, IsPlain, IsTable};
 ghost use Rattle.palm_base.specs.History.{ArePlain, replies_to, table_after};
 ghost use Rattle.palm_base.specs.Key.{key};
-ghost use Rattle.palm_batch.specs.Place.{IsRowAt, IsGapAt};
 
-use palm_base::{Call, Digits, Entry, NoMemory, Reply, Row};
+use palm_base::{Call, Digits, Entry, NoMemory, Reply, Row, find_row};
 use std::alloc::Global;
 use std::marker::Model;
 
@@ -49,15 +48,6 @@ impl PlainTable {
     }
 }
 
-// The place of the row with this prefix, or the place at which one would stand.
-fn find(rows: &[Row], prefix: &Digits) -> Result<usize, usize>
-    requires { IsTable rows.now }
-    ensures { MatchResult result (IsRowAt rows.now (key prefix.now)) (IsGapAt rows.now (key prefix.now)) }
-{
-    let sought = prefix.key();
-    rows.binary_search_by_key(&sought, |row| row.prefix.key())
-}
-
 // Answers a Set. The room is there before the batch begins, so it can't fail.
 fn set_row(rows: &mut Vec<Row>, row: Row) -> Reply
     requires table { IsTable rows.old.items }
@@ -67,7 +57,7 @@ fn set_row(rows: &mut Vec<Row>, row: Row) -> Reply
     ensures bound { vec_len rows.new ≤ vec_len rows.old + 1 }
     ensures capacity { vec_capacity rows.new ≡ vec_capacity rows.old }
 {
-    match find(rows, &row.prefix) {
+    match find_row(rows, row.prefix.key()) {
         Ok(place) => {
             let old = rows[place].rate;
             rows[place] = row;
@@ -88,7 +78,7 @@ fn remove_row(rows: &mut Vec<Row>, prefix: &Digits) -> Reply
     ensures bound { vec_len rows.new ≤ vec_len rows.old }
     ensures capacity { vec_capacity rows.new ≡ vec_capacity rows.old }
 {
-    match find(rows, prefix) {
+    match find_row(rows, prefix.key()) {
         Ok(place) => Reply::Gone(rows.remove(place).rate),
         Err(_) => Reply::Absent,
     }
@@ -99,7 +89,7 @@ fn rate_of(rows: &[Row], prefix: &Digits) -> Reply
     requires { IsTable rows.now }
     ensures { result ≡ or_absent Reply.Value (rate_at (key prefix.now) rows.now) }
 {
-    match find(rows, prefix) {
+    match find_row(rows, prefix.key()) {
         Ok(place) => Reply::Value(rows[place].rate),
         Err(_) => Reply::Absent,
     }

@@ -1,7 +1,6 @@
 -- The leaves that sorted rows are cut into, put into an arena one after another.
-use Rattle.std.proofs.Common.{◌≡◌, ℕ, zero, suc, ◌+◌, ◌<◌, cond, List, [], ◌∷◌, ◌++◌, length, take, drop, refl, sym, ap, subst, arith, ◌∙◌}
+use Rattle.std.proofs.Common.{◌≡◌, ℕ, zero, ◌+◌, ◌<◌, cond, List, [], ◌∷◌, ◌++◌, length, take, drop, refl, sym, ap, subst, arith, ◌∙◌}
 use Rattle.std.specs.Prelude.{◌==◌}
-use Rattle.std.specs.List.{AllByRecursion}
 use Rattle.std.proofs.lemmas.List.{take-append-drop}
 use Rattle.std.proofs.lemmas.List.Elements.{recursion_from_All}
 use Rattle.palm_base.specs.Table.{row_key, IsTable}
@@ -12,6 +11,7 @@ use Rattle.palm_base.specs.Lows.{PrefixesHold}
 use Rattle.palm_base.specs.declared.row.Row.{Row}
 use Rattle.palm_base.specs.declared.bounds.TheConstants.{MOST_LEAF_ROWS, LEAST_LEAF_ROWS}
 use Rattle.palm_base.proofs.Every.{every_append}
+use Rattle.palm_base.proofs.Tables.{table_take, table_drop}
 use Rattle.palm_node.specs.LeafRows.{IsLeaf}
 use Rattle.palm_node.specs.declared.id.NodeId.{NodeId}
 use Rattle.palm_node.specs.declared.id.Piece.{Piece}
@@ -24,21 +24,6 @@ use Rattle.palm_arena.proofs.Standing.{none_lent_after_put}
 use Rattle.palm_tree.specs.Levels.{IsLevel}
 use Rattle.palm_tree.proofs.PieceReads.{read_length, leaf_added}
 use Rattle.palm_base.proofs.CutSteps.{pieces_left, IsCutTo, left_first, left_next, cut_first, cut_next, later_nodes, next_own, nodes_next}
-
-every_take : (P : Row → Type 0) (k : ℕ) (rows : List Row) → AllByRecursion P rows → AllByRecursion P (take k rows)
-every_take P zero rows all = tt
-every_take P (suc k) [] all = tt
-every_take P (suc k) (row ∷ rows) all = (all.0, every_take P k rows all.1)
-
-table_take : (k : ℕ) (rows : List Row) → IsTable rows → IsTable (take k rows)
-table_take zero rows table = tt
-table_take (suc k) [] table = tt
-table_take (suc k) (row ∷ rows) table = (every_take _ k rows table.0, table_take k rows table.1)
-
-table_drop : (k : ℕ) (rows : List Row) → IsTable rows → IsTable (drop k rows)
-table_drop zero rows table = table
-table_drop (suc k) [] table = tt
-table_drop (suc k) (row ∷ rows) table = table_drop k rows table.1
 
 -- The leaves of the pieces before the i-th are put, and the rest of the rows is left.
 pub record LeavesSoFar (rows : List Row) (i : ℕ) (places : List Place) (rest : List Row) (leaves : List Piece) : Type 0 where

@@ -6,8 +6,8 @@ use Rattle.std.proofs.lemmas.Cmp.{ranked}
 use Rattle.std.proofs.lemmas.Bool.Decides.{nat_tests}
 use Rattle.palm_base.specs.Table.{row_key, IsTable}
 use Rattle.palm_base.specs.declared.row.Row.{Row}
-use Rattle.palm_batch.specs.Place.{IsRowAt, IsGapAt}
-use Rattle.palm_batch.proofs.Places.{row_at, gap_at, keys_rise}
+use Rattle.palm_base.specs.Place.{IsRowAt, IsGapAt}
+use Rattle.palm_base.proofs.RowPlaces.{row_at, gap_at, keys_rise}
 
 -- What comparing each row's key with the sought one answers rises along a table, as the search asks.
 comparisons_rise : (k : ℕ) (rows : List Row) → IsTable rows → IsNonDecreasingBy (λ row. ordering_index (nat_cmp (row_key row) k)) rows

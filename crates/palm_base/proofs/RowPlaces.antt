@@ -5,7 +5,7 @@ use Rattle.std.proofs.lemmas.Bool.{eq-eqb, ne_eqb}
 use Rattle.palm_base.specs.Table.{row_key, rate_at, without, IsTable}
 use Rattle.palm_base.specs.declared.row.Row.{Row}
 use Rattle.palm_base.proofs.Tables.{Below, put_before, put_at, put_past, below_all}
-use Rattle.palm_batch.specs.Place.{IsRowAt, IsGapAt}
+use Rattle.palm_base.specs.Place.{IsRowAt, IsGapAt}
 
 -- A key below those of all rows is no row's.
 rate_below : (k : ℕ) (rows : List Row) → Below k rows → rate_at k rows ≡ None

@@ -1,0 +1,24 @@
+use Rattle.std.proofs.Common.{◌≡◌, ◌≤◌, ◌+◌, ◌∙◌, sym, ap, arith, length, refl, subst, vec_len, vec_capacity}
+use Rattle.std.specs.List.{AllByRecursion}
+use Rattle.palm_arena.proofs.Natural.{length-map'}
+use Rattle.palm_base.specs.Cut.{piece_count}
+use Rattle.palm_base.specs.declared.bounds.TheConstants.{MOST_LEAF_ROWS}
+use Rattle.palm_leaf.specs.Asked.{part_of, HasRoom}
+use Rattle.palm_leaf.proofs.PlanRoom.{all_open}
+use Rattle.palm_leaf.proofs.room.plan.Goals as goal
+
+pub returns-clause-plan : goal.returns-clause-plan
+returns-clause-plan c =
+    let asked = c.in_ok-ask_all.field-0 in
+    let count : vec_len asked ≡ c.len-count.result =
+    asked.ok.0 ∙ sym (length-map' part_of asked.items) ∙ ap length c.in_ok-ask_all.ensures.parts ∙ sym c.len-count.ensures in
+    let most : c.in_ok-most.most ≡ MOST_LEAF_ROWS + vec_len asked = c.in_ok-most.ensures ∙ ap (λ n. MOST_LEAF_ROWS + n) (sym count) in
+    let counted : piece_count MOST_LEAF_ROWS c.len-count.result ≤ vec_capacity c.in_ok-later.later = omega (arith, c.pieces.ensures, c.in_ok-later.ensures.capacity) in
+    record {
+      no_rows = c.in_ok-rows.ensures.items;
+      no_later = c.in_ok-later.ensures.items;
+      row_room = omega (arith, most, c.in_ok-rows.ensures.capacity);
+      later_room = subst (λ n. piece_count MOST_LEAF_ROWS n ≤ vec_capacity c.in_ok-later.later) (sym count) counted;
+      not_kept = refl;
+      waits = all_open _ asked.items c.args.group.parts c.in_ok-ask_all.ensures.parts c.requires (subst (λ n. AllByRecursion (HasRoom n) asked.items) most c.in_ok-ask_all.ensures.room);
+    }

@@ -1,0 +1,46 @@
+-- Parts of a leaf with room for their answers.
+use Rattle.std.specs.Prelude.{◌≡◌, ℕ, ◌≤◌, List, [], Option, vec_capacity}
+use Rattle.palm_base.specs.declared.row.Row.{Row}
+use Rattle.palm_route.specs.declared.part.Ask.{Ask}
+use Rattle.palm_route.specs.declared.part.Ask.TheVariants as ask
+use Rattle.palm_route.specs.declared.part.Part.{Part}
+use Rattle.palm_leaf.specs.Routed.{HasKey}
+use Rattle.palm_leaf.specs.declared.answer.LeafAnswer.{LeafAnswer}
+use Rattle.palm_leaf.specs.declared.answer.LeafAnswer.TheVariants.{Old, Found}
+use Rattle.palm_leaf.specs.declared.answer.PartAnswer.{PartAnswer}
+use Rattle.palm_leaf.specs.declared.rows.Asked.{Asked}
+
+-- The answer to an ask that an old rate and found rows make: the rows where it is a List's, and else the rate.
+abbrev pub answer_with : Ask → Option ℕ → List Row → LeafAnswer
+answer_with (ask.Set rate) old found = Old old
+answer_with ask.Del old found = Old old
+answer_with ask.Look old found = Old old
+answer_with (ask.List from to limit) old found = Found found
+
+-- The answer that a part has been given.
+abbrev pub answered : Asked → PartAnswer
+answered asked = record { part = asked.part; answer = answer_with asked.part.ask asked.rate asked.found.items }
+
+abbrev pub part_of : Asked → Part
+part_of asked = asked.part
+
+-- There is room for so many of n rows as a limit allows. So there is for 3 rows at the limit 5 where there is room for 3.
+abbrev pub FindsRoom : ℕ → ℕ → ℕ → Type 0
+FindsRoom limit n room = (most : ℕ) → most ≤ limit → most ≤ n → most ≤ room
+
+-- An ask finds room for what it may find among n rows.
+abbrev pub AskFindsRoom : ℕ → Ask → ℕ → Type 0
+AskFindsRoom n (ask.Set rate) room = Unit {0}
+AskFindsRoom n ask.Del room = Unit {0}
+AskFindsRoom n ask.Look room = Unit {0}
+AskFindsRoom n (ask.List from to limit) room = FindsRoom limit n room
+
+-- The part has found no rows yet, and has room for those that it may find among n rows.
+pub record HasRoom (n : ℕ) (asked : Asked) : Type 0 where
+  pub none : asked.found.items ≡ []
+  pub room : AskFindsRoom n asked.part.ask (vec_capacity asked.found)
+
+-- The part waits for its answer: it has room among n rows, and goes by a key where it is an edit.
+pub record IsOpen (n : ℕ) (asked : Asked) : Type 0 where
+  pub room : HasRoom n asked
+  pub key : HasKey asked.part

@@ -1,0 +1,85 @@
+-- A leaf's work: what it needs, and what it leaves.
+use Rattle.std.specs.Prelude.{◌≡◌, ℕ, ◌+◌, ◌≤◌, Bool, false, if◌then◌else◌, List, [], ◌∷◌, map, Some, vec_len, vec_capacity}
+use Rattle.std.specs.List.{AllByRecursion}
+use Rattle.std.proofs.Common.{zero}
+use Rattle.palm_base.specs.Table.{after_all, IsTable}
+use Rattle.palm_base.specs.Cut.{piece_count}
+use Rattle.palm_base.specs.Pass.{Outcome, is_small, leaves_of}
+use Rattle.palm_base.specs.declared.bounds.TheConstants.{MOST_LEAF_ROWS}
+use Rattle.palm_base.specs.declared.row.Row.{Row}
+use Rattle.palm_node.specs.declared.node.Node.TheVariants.{Leaf}
+use Rattle.palm_route.specs.Edits.{edits_of}
+use Rattle.palm_route.specs.declared.part.Part.{Part}
+use Rattle.palm_leaf.specs.Answers.{answers_in, rows_in_node}
+use Rattle.palm_leaf.specs.Asked.{answered, part_of, IsOpen}
+use Rattle.palm_leaf.specs.declared.answer.PartAnswer.{PartAnswer}
+use Rattle.palm_leaf.specs.declared.leaf_work.NewLeaf.{NewLeaf}
+use Rattle.palm_leaf.specs.declared.leaf_work.LeafPlan.{LeafPlan}
+use Rattle.palm_leaf.specs.declared.leaf_work.LeafWork.{LeafWork}
+
+-- What becomes of a leaf that is left with these rows: where there are some, and fewer than `least`, it is removed and they
+-- are loose, and else they are cut. So 7 rows are loose for the least 8, and a leaf of them for the least 0.
+abbrev pub leaf_left : ℕ → ℕ → List Row → Outcome zero
+leaf_left least low rows =
+    let leaves : Outcome zero = record { pieces = leaves_of low rows; loose = [] } in
+    if is_small least rows then record { pieces = []; loose = rows } else leaves
+
+-- A leaf with its low.
+abbrev pub low_and_rows : NewLeaf → ℕ × List Row
+low_and_rows later = (later.low, later.leaf)
+
+-- The outcome that a leaf shows: where it is kept it is the first piece, with these later ones, and else its rows are loose.
+abbrev pub outcome_shown : Bool → ℕ → List Row → List (ℕ × List Row) → List Row → Outcome zero
+outcome_shown kept low first later rows =
+    let removed : Outcome zero = record { pieces = []; loose = rows } in
+    if kept then record { pieces = (low, first) ∷ later; loose = [] } else removed
+
+-- The outcome that a plan shows after the work, where these rows stand in the leaf.
+abbrev pub outcome_of_plan : List Row → LeafPlan → Outcome zero
+outcome_of_plan first plan = outcome_shown plan.kept plan.low first (map low_and_rows plan.later.items) plan.rows.items
+
+-- A plan before the work: nothing is listed yet, and there is room for all that may come of a full leaf.
+pub record IsPlan (plan : LeafPlan) : Type 0 where
+  pub no_rows : plan.rows.items ≡ []
+  pub no_later : plan.later.items ≡ []
+  pub row_room : MOST_LEAF_ROWS + vec_len plan.asked ≤ vec_capacity plan.rows
+  pub later_room : piece_count MOST_LEAF_ROWS (vec_len plan.asked) ≤ vec_capacity plan.later
+  pub not_kept : plan.kept ≡ false
+  pub waits : AllByRecursion (IsOpen (MOST_LEAF_ROWS + vec_len plan.asked)) plan.asked.items
+
+abbrev pub parts_of_plan : LeafPlan → List Part
+parts_of_plan plan = map part_of plan.asked.items
+
+abbrev pub answers_of_plan : LeafPlan → List PartAnswer
+answers_of_plan plan = map answered plan.asked.items
+
+-- The work may be run: its node is a leaf, and its plan is one.
+pub record IsReady (work : LeafWork) : Type 0 where
+  pub leaf : (rows : List Row) × (work.lease.node ≡ Leaf rows)
+  pub plan : IsPlan work.plan
+
+-- The work on a leaf of these rows was run: each part is answered on the rows that the parts before it left, and the leaf is
+-- what the serial rule makes of it.
+pub record IsWorked (rows : List Row) (before after : LeafWork) : Type 0 where
+  pub id : after.lease.id ≡ before.lease.id
+  pub path : after.plan.path ≡ before.plan.path
+  pub low : after.plan.low ≡ before.plan.low
+  pub leaf : (left : List Row) × (after.lease.node ≡ Leaf left)
+  pub few : vec_len after.plan.later ≤ vec_len before.plan.asked
+  pub answers : answers_of_plan after.plan ≡ answers_in rows (parts_of_plan before.plan)
+  pub outcome : outcome_of_plan (rows_in_node (Some after.lease.node)) after.plan ≡ leaf_left before.plan.least before.plan.low (after_all rows (edits_of (parts_of_plan before.plan)))
+
+abbrev pub HasRun : LeafWork → LeafWork → Type 0
+HasRun before after = (rows : List Row) → before.lease.node ≡ Leaf rows → IsWorked rows before after
+
+-- The parts of a plan were resolved on rows: each is answered, and their edits are done to the rows.
+pub record IsResolved (rows : List Row) (before after : LeafPlan) : Type 0 where
+  pub answers : answers_of_plan after ≡ answers_in rows (parts_of_plan before)
+  pub rows-are : after.rows.items ≡ after_all rows (edits_of (parts_of_plan before))
+  pub table : IsTable after.rows.items
+  pub few : vec_len after.rows ≤ MOST_LEAF_ROWS + vec_len before.asked
+  pub path : after.path ≡ before.path
+  pub low : after.low ≡ before.low
+  pub least : after.least ≡ before.least
+  pub later : after.later ≡ before.later
+  pub kept : after.kept ≡ before.kept

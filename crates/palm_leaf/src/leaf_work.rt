@@ -1,0 +1,136 @@
+// One leaf's work: from its rows and its parts to the answers and the leaves that stand for it.
+ghost use Rattle.std.specs.Prelude.{◌≡◌, ℕ, ◌≤◌, ◌<◌, ◌+◌, ◌∷◌, ◌⊎◌, true, false, List, [], length, map, take, Some, vec_len, vec_capacity};
+ghost use Rattle.palm_base.specs.Table.{IsTable};
+ghost use Rattle.palm_base.specs.Cut.{piece_count, piece_size};
+ghost use Rattle.palm_base.specs.Pass.{is_small, leaves_of};
+ghost use Rattle.palm_node.specs.LeafRows.{IsLeaf};
+ghost use Rattle.palm_base.specs.declared.row.Row.{Row};
+ghost use Rattle.palm_leaf.specs.Answers.{rows_in_node};
+ghost use Rattle.palm_leaf.specs.Worked.{low_and_rows, IsPlan, IsResolved, IsReady, HasRun};
+
+use crate::rows::{Asked, resolve};
+use palm_arena::Lease;
+use palm_base::{MOST_LEAF_ROWS, Row};
+use palm_node::{Leaf, Node, Path, piece_size, pieces};
+use palm_share::Job;
+
+/// A new leaf, with the key of its first row.
+#[derive(Debug, Drop)]
+pub struct NewLeaf {
+    pub low: u64,
+    pub leaf: Leaf,
+}
+
+/// What is to be done with a leaf, with room for all that comes of it.
+#[derive(Debug, Drop)]
+pub struct LeafPlan {
+    /// The way to the leaf from the root.
+    pub path: Path,
+    /// The leaf's low, as its parent has written it.
+    pub low: u64,
+    /// With fewer rows than this, but some, the leaf is removed.
+    pub least: usize,
+    /// The parts, in the order of their arrival.
+    pub asked: Vec<Asked>,
+    /// The rows, while they are changed. They are loose in the end where the leaf isn't kept.
+    pub rows: Vec<Row>,
+    /// The leaves past the first that the rows are cut into.
+    pub later: Vec<NewLeaf>,
+    /// Whether the leaf stands on, with the first of the rows.
+    pub kept: bool,
+}
+
+/// A lent leaf with its plan. It can't be dropped, since its lease has to be given back.
+#[derive(Debug)]
+pub struct LeafWork {
+    pub lease: Lease,
+    pub plan: LeafPlan,
+}
+
+// Lists the rows of a leaf, for which there is room.
+fn list_rows(leaf: &Leaf, rows: &mut Vec<Row>)
+    requires none { rows.old.items ≡ [] }
+    requires room { MOST_LEAF_ROWS ≤ vec_capacity rows.old }
+    ensures rows { rows.new.items ≡ leaf.now }
+    ensures leaf { IsLeaf leaf.now }
+    ensures capacity { vec_capacity rows.new ≡ vec_capacity rows.old }
+{
+    for i in 0..leaf.len() {
+        rows.push_reserved(leaf.row(i));
+    }
+}
+
+/// Cuts the rows past the first piece into leaves, for which there is room.
+pub fn cut_later(rows: &[Row], later: &mut Vec<NewLeaf>)
+    requires table { IsTable rows.now }
+    requires some { 0 < length rows.now }
+    requires none { later.old.items ≡ [] }
+    requires room { piece_count MOST_LEAF_ROWS (length rows.now) ≤ vec_capacity later.old + 1 }
+    ensures count { vec_len later.new + 1 ≡ piece_count MOST_LEAF_ROWS (length rows.now) }
+    ensures pieces { (low : ℕ) → (low, take (piece_size MOST_LEAF_ROWS (length rows.now) 0) rows.now) ∷ map low_and_rows later.new.items ≡ leaves_of low rows.now }
+{
+    let count = rows.len();
+    let (_, mut rest) = rows.split_at(piece_size(MOST_LEAF_ROWS, count, 0));
+    for i in 1..pieces(MOST_LEAF_ROWS, count) {
+        let (part, behind) = rest.split_at(piece_size(MOST_LEAF_ROWS, count, i));
+        later.push_reserved(NewLeaf {
+            low: part[0].prefix.key(),
+            leaf: Leaf::from_rows(part),
+        });
+        rest = behind;
+    }
+}
+
+impl LeafPlan {
+    // Whether the leaf stands on: rows are left, and not too few.
+    fn stays(&self) -> bool
+        ensures kept { result ≡ true → (0 < length self.now.rows.items) × (is_small self.now.least self.now.rows.items ≡ false) }
+        ensures removed { result ≡ false → (self.now.rows.items ≡ []) ⊎ (is_small self.now.least self.now.rows.items ≡ true) }
+    {
+        !self.rows.is_empty() && self.rows.len() >= self.least
+    }
+}
+
+/// Lists the rows of a leaf and resolves the parts on them.
+pub fn resolve_parts(node: &Node, plan: &mut LeafPlan)
+    requires leaf { (rows : List Row) × (node.now ≡ Node.Leaf rows) }
+    requires plan { IsPlan plan.old }
+    ensures { IsResolved (rows_in_node (Some node.now)) plan.old plan.new }
+{
+    let Node::Leaf(leaf) = node else {
+        unreachable!()
+    };
+    list_rows(leaf, &mut plan.rows);
+    resolve(&mut plan.rows, &mut plan.asked);
+}
+
+// Writes the first of the rows into the leaf, and cuts the others into later ones.
+fn keep(lease: &mut Lease, plan: &mut LeafPlan)
+    requires some { 0 < length plan.old.rows.items }
+    requires table { IsTable plan.old.rows.items }
+    requires none { plan.old.later.items ≡ [] }
+    requires room { piece_count MOST_LEAF_ROWS (length plan.old.rows.items) ≤ vec_capacity plan.old.later + 1 }
+    ensures id { lease.new.id ≡ lease.old.id }
+    ensures leaf { (rows : List Row) × (lease.new.node ≡ Node.Leaf rows) }
+    ensures count { vec_len plan.new.later + 1 ≡ piece_count MOST_LEAF_ROWS (length plan.old.rows.items) }
+    ensures plan { plan.new ≡ record plan.old { later = plan.new.later; kept = true } }
+    ensures pieces { (low : ℕ) → (low, rows_in_node (Some lease.new.node)) ∷ map low_and_rows plan.new.later.items ≡ leaves_of low plan.old.rows.items }
+{
+    let first = piece_size(MOST_LEAF_ROWS, plan.rows.len(), 0);
+    *lease.node_mut() = Node::Leaf(Leaf::from_rows(&plan.rows[..first]));
+    cut_later(&plan.rows, &mut plan.later);
+    plan.kept = true;
+}
+
+impl Job for LeafWork {
+    ghost ready = { IsReady };
+
+    ghost ran = { HasRun };
+
+    fn run(&mut self) {
+        resolve_parts(self.lease.node(), &mut self.plan);
+        if self.plan.stays() {
+            keep(&mut self.lease, &mut self.plan);
+        }
+    }
+}

@@ -1,0 +1,90 @@
+// Room for all that may come of a leaf, made before the leaves are worked on, so that the work can't fail.
+ghost use Rattle.std.specs.Prelude.{◌≡◌, ◌≤◌, ◌+◌, ◌==◌, if◌then◌else◌, length, map, IfOk};
+ghost use Rattle.std.specs.List.{AllByRecursion};
+ghost use Rattle.palm_base.specs.declared.bounds.TheConstants.{MOST_LEAF_ROWS};
+ghost use Rattle.palm_leaf.specs.Asked.{part_of, HasRoom};
+ghost use Rattle.palm_leaf.specs.Routed.{HasKey, written_low};
+ghost use Rattle.palm_leaf.specs.Worked.{IsPlan, parts_of_plan};
+
+use crate::leaf_work::LeafPlan;
+use crate::rows::Asked;
+use palm_base::{MOST_LEAF_ROWS, NoMemory};
+use palm_node::{Path, pieces};
+use palm_route::{Ask, Group, Part, PartList};
+use std::alloc::Global;
+
+// A part with room for what it may find among `most` rows.
+fn ask(alloc: Global, part: Part, most: usize) -> Result<Asked, NoMemory>
+    ensures part { IfOk result (λ asked. asked.part ≡ part) }
+    ensures room { IfOk result (λ asked. HasRoom most asked) }
+{
+    let found = match &part.ask {
+        Ask::List { limit, .. } => Vec::with_capacity(alloc, (limit.get() as usize).min(most))?,
+        Ask::Set(_) | Ask::Del | Ask::Look => Vec::new(alloc),
+    };
+    Ok(Asked {
+        part,
+        rate: None,
+        found,
+    })
+}
+
+// The parts of a leaf, each with room for what it may find among `most` rows.
+fn ask_all(alloc: Global, parts: PartList, most: usize) -> Result<Vec<Asked>, NoMemory>
+    ensures parts { IfOk result (λ asked. map part_of asked.items ≡ parts) }
+    ensures room { IfOk result (λ asked. AllByRecursion (HasRoom most) asked.items) }
+{
+    let mut all = Vec::with_capacity(alloc, parts.len())?;
+    for part in parts.into_vec() {
+        all.push_reserved(ask(alloc, part, most)?);
+    }
+    Ok(all)
+}
+
+// The low that a leaf's parent has written for it: 0 for the root and for a first child.
+fn parent_low(path: &Path, low: u64) -> u64
+    ensures { result ≡ written_low path.now low }
+{
+    let steps = path.len();
+    if steps == 0 {
+        return 0;
+    }
+    let (_, child) = path.get(steps - 1);
+    if child == 0 { 0 } else { low }
+}
+
+// How many rows a leaf may be left with, at most, by this many parts.
+fn most_rows(count: usize) -> Result<usize, NoMemory>
+    ensures { IfOk result (λ most. most ≡ MOST_LEAF_ROWS + count) }
+{
+    match MOST_LEAF_ROWS.checked_add(count) {
+        Some(most) => Ok(most),
+        None => Err(NoMemory),
+    }
+}
+
+/// The plan for a group's leaf, which is removed where it is left with some rows, but fewer than `least`. `NoMemory` where
+/// room was refused.
+pub fn plan(alloc: Global, group: Group, least: usize) -> Result<LeafPlan, NoMemory>
+    requires { AllByRecursion HasKey group.parts }
+    ensures plan { IfOk result (λ plan. IsPlan plan) }
+    ensures parts { IfOk result (λ plan. parts_of_plan plan ≡ group.parts) }
+    ensures path { IfOk result (λ plan. plan.path ≡ group.path) }
+    ensures low { IfOk result (λ plan. plan.low ≡ written_low group.path group.low) }
+    ensures least { IfOk result (λ plan. plan.least ≡ least) }
+{
+    let count = group.parts.len();
+    let most = most_rows(count)?;
+    let low = parent_low(&group.path, group.low);
+    let rows = Vec::with_capacity(alloc, most)?;
+    let later = Vec::with_capacity(alloc, pieces(MOST_LEAF_ROWS, count))?;
+    Ok(LeafPlan {
+        path: group.path,
+        low,
+        least,
+        asked: ask_all(alloc, group.parts, most)?,
+        rows,
+        later,
+        kept: false,
+    })
+}

@@ -1,0 +1,206 @@
+// Leaves that were given back are settled: the later leaves of each are put into the arena, and one that isn't kept is
+// dropped. Where memory is refused the batch is abandoned, so what was done so far stays as it is.
+ghost use Rattle.std.specs.Prelude.{◌≡◌, ◌≤◌, ◌+◌, ◌++◌, ◌∷◌, [], List, length, map, reverse, sum_by, Some, IsSome, IfOk, OnOk, vec_len};
+ghost use Rattle.palm_base.specs.declared.row.Row.{Row};
+ghost use Rattle.palm_node.specs.declared.node.Node.TheVariants.{Leaf};
+ghost use Rattle.palm_arena.specs.ArenaState.{node_at, NoneLent};
+ghost use Rattle.palm_arena.specs.Cells.{Cell, Owns};
+ghost use Rattle.palm_arena.specs.Reads.{map_of};
+ghost use Rattle.palm_leaf.specs.Asked.{answered};
+ghost use Rattle.palm_leaf.specs.Answers.{rows_at};
+ghost use Rattle.palm_leaf.specs.Ends.{LeavesEnd};
+ghost use Rattle.palm_leaf.specs.Settling.{AreTaken, EndsAs, EndsWith, end_of_done, done_cells, answers_of_done};
+ghost use Rattle.palm_leaf.specs.Worked.{low_and_rows, answers_of_plan};
+
+use crate::answer::{AnswerList, LeafAnswer, LeafOutcome, PartAnswer};
+use crate::leaf_work::{LeafPlan, NewLeaf};
+use crate::lending::LeafDone;
+use crate::rows::Asked;
+use palm_arena::Arena;
+use palm_base::{NoMemory, Row, RowList, Steps};
+use palm_node::{Change, ChangeList, Changes, Node, NodeId, Path, Piece, PieceList, RemovedList};
+use palm_route::Ask;
+use std::alloc::Global;
+use std::sync::ledger::Ledger;
+
+/// What comes of the leaves, as far as they are settled.
+#[derive(Debug, Drop)]
+pub struct Gathered {
+    pub answers: AnswerList,
+    pub nodes: ChangeList,
+    pub loose: Vec<Row>,
+}
+
+// A part with the answer that it was given.
+fn part_answer(asked: Asked) -> PartAnswer
+    ensures { result ≡ answered asked }
+{
+    let Asked { part, rate, found } = asked;
+    let answer = match &part.ask {
+        Ask::Set(_) | Ask::Del | Ask::Look => LeafAnswer::Old(rate),
+        Ask::List { .. } => LeafAnswer::Found(RowList::from_vec(found)),
+    };
+    PartAnswer { part, answer }
+}
+
+// Appends the answers to a leaf's parts.
+fn append_answers(all: Vec<Asked>, answers: &mut AnswerList) -> Result<(), NoMemory>
+    ensures { OnOk result (answers.new ≡ answers.old ++ map answered all.items) }
+{
+    for asked in all {
+        answers.push(part_answer(asked))?;
+    }
+    Ok(())
+}
+
+// Puts new leaves into the arena, and lists them behind others.
+fn take_later<L: Ledger>(
+    arena: &mut Arena,
+    later: Vec<NewLeaf>,
+    pieces: &mut PieceList,
+    steps: &mut Steps<L>,
+) -> Result<(), NoMemory>
+    requires under_way { IsSome arena.old.begun }
+    requires none_lent { NoneLent arena.old.places }
+    ensures taken { OnOk result (AreTaken (map_of arena.old.places) (map_of arena.new.places) pieces.old pieces.new later.items) }
+    ensures begun { arena.new.begun ≡ arena.old.begun }
+    ensures none_lent { NoneLent arena.new.places }
+    ensures ticks { steps.new ≤ steps.old + length later.items }
+    ensures moved { length arena.new.moved + steps.old ≤ length arena.old.moved + steps.new }
+{
+    for leaf in later {
+        let NewLeaf { low, leaf } = leaf;
+        let id = arena.take(Node::Leaf(leaf), steps)?;
+        pieces.push(Piece { low, id })?;
+    }
+    Ok(())
+}
+
+// Settles a leaf that is kept, with the later leaves behind it.
+fn settle_kept<L: Ledger>(
+    alloc: Global,
+    arena: &mut Arena,
+    first: Piece,
+    path: Path,
+    later: Vec<NewLeaf>,
+    gathered: &mut Gathered,
+    steps: &mut Steps<L>,
+) -> Result<(), NoMemory>
+    requires under_way { IsSome arena.old.begun }
+    requires none_lent { NoneLent arena.old.places }
+    requires leaf { (rows : List Row) × (node_at arena.old.places first.id ≡ Some (Leaf rows)) }
+    ensures end { OnOk result (EndsAs (map_of arena.old.places) (map_of arena.new.places) (record { node = first.id; path = path; outcome = record { pieces = (first.low, rows_at (map_of arena.old.places) first.id) ∷ map low_and_rows later.items; loose = [] } }) gathered.old gathered.new) }
+    ensures begun { arena.new.begun ≡ arena.old.begun }
+    ensures none_lent { NoneLent arena.new.places }
+    ensures ticks { steps.new ≤ steps.old + length later.items }
+    ensures moved { length arena.new.moved + steps.old ≤ length arena.old.moved + steps.new }
+{
+    let mut pieces = PieceList::new(alloc);
+    pieces.push(first)?;
+    take_later(arena, later, &mut pieces, steps)?;
+    gathered.nodes.push(Change {
+        node: first.id,
+        path,
+        pieces,
+    })?;
+    Ok(())
+}
+
+// Settles a leaf that isn't kept: it is dropped, and its rows are loose.
+fn settle_removed(
+    alloc: Global,
+    arena: &mut Arena,
+    id: NodeId,
+    path: Path,
+    rows: &[Row],
+    gathered: &mut Gathered,
+) -> Result<(), NoMemory>
+    requires under_way { IsSome arena.old.begun }
+    requires none_lent { NoneLent arena.old.places }
+    requires leaf { (left : List Row) × (node_at arena.old.places id ≡ Some (Leaf left)) }
+    ensures end { OnOk result (EndsAs (map_of arena.old.places) (map_of arena.new.places) (record { node = id; path = path; outcome = record { pieces = []; loose = rows.now } }) gathered.old gathered.new) }
+    ensures begun { arena.new.begun ≡ arena.old.begun }
+    ensures none_lent { NoneLent arena.new.places }
+    ensures moved { arena.new.moved ≡ arena.old.moved }
+{
+    arena.drop_node(id)?;
+    gathered.loose.extend_from_slice(rows)?;
+    gathered.nodes.push(Change {
+        node: id,
+        path,
+        pieces: PieceList::new(alloc),
+    })?;
+    Ok(())
+}
+
+// Settles one leaf.
+fn settle<L: Ledger>(
+    alloc: Global,
+    arena: &mut Arena,
+    done: LeafDone,
+    gathered: &mut Gathered,
+    steps: &mut Steps<L>,
+) -> Result<(), NoMemory>
+    requires under_way { IsSome arena.old.begun }
+    requires none_lent { NoneLent arena.old.places }
+    requires leaf { (rows : List Row) × (node_at arena.old.places done.id ≡ Some (Leaf rows)) }
+    ensures end { OnOk result (EndsWith (map_of arena.old.places) (map_of arena.new.places) done gathered.old gathered.new) }
+    ensures begun { arena.new.begun ≡ arena.old.begun }
+    ensures none_lent { NoneLent arena.new.places }
+    ensures ticks { steps.new ≤ steps.old + length done.plan.later.items }
+    ensures moved { length arena.new.moved + steps.old ≤ length arena.old.moved + steps.new }
+{
+    let LeafDone { id, plan } = done;
+    let LeafPlan {
+        path,
+        low,
+        least: _,
+        asked,
+        rows,
+        later,
+        kept,
+    } = plan;
+    append_answers(asked, &mut gathered.answers)?;
+    if kept {
+        settle_kept(
+            alloc,
+            arena,
+            Piece { low, id },
+            path,
+            later,
+            gathered,
+            steps,
+        )?;
+    } else {
+        settle_removed(alloc, arena, id, path, &rows, gathered)?;
+    }
+    Ok(())
+}
+
+/// Settles all leaves, which are listed from the last to the first.
+pub fn settle_leaves<L: Ledger>(
+    alloc: Global,
+    arena: &mut Arena,
+    mut done: Vec<LeafDone>,
+    steps: &mut Steps<L>,
+) -> Result<Gathered, NoMemory>
+    requires under_way { IsSome arena.old.begun }
+    requires none_lent { NoneLent arena.old.places }
+    requires leaves { (others : List Cell) × Owns (map_of arena.old.places) (done_cells (map_of arena.old.places) (reverse done.items) ++ others) }
+    ensures ends { IfOk result (λ gathered. LeavesEnd (map_of arena.old.places) (map_of arena.new.places) (done_cells (map_of arena.old.places) (reverse done.items)) (map (end_of_done (map_of arena.old.places)) (reverse done.items)) gathered.nodes gathered.loose.items) }
+    ensures answers { IfOk result (λ gathered. gathered.answers ≡ answers_of_done (reverse done.items)) }
+    ensures begun { arena.new.begun ≡ arena.old.begun }
+    ensures none_lent { NoneLent arena.new.places }
+    ensures ticks { steps.new ≤ steps.old + sum_by (λ done. length done.plan.later.items) done.items }
+    ensures moved { length arena.new.moved + steps.old ≤ length arena.old.moved + steps.new }
+{
+    let mut gathered = Gathered {
+        answers: AnswerList::new(alloc),
+        nodes: ChangeList::new(alloc),
+        loose: Vec::new(alloc),
+    };
+    while let Some(leaf) = done.pop() {
+        settle(alloc, arena, leaf, &mut gathered, steps)?;
+    }
+    Ok(gathered)
+}
