@@ -1,0 +1,3 @@
+pub mod Raising
+pub mod Roots
+pub mod Sweeps
