@@ -67,7 +67,7 @@ fn start<'a, L: Ledger>(
 }
 
 // Whether so few children are left that their node goes.
-fn is_few(children: &[Piece]) -> bool
+pub fn is_few(children: &[Piece]) -> bool
     ensures { result ≡ is_small LEAST_CHILDREN children.now }
 {
     !children.is_empty() && children.len() < LEAST_CHILDREN
