@@ -1,4 +1,4 @@
--- From the ChangesAt of a level to those of the next.
+-- From the changes of a level to those of the next: each node's results and what the map holds.
 use Rattle.std.proofs.Common.{◌≡◌, ℕ, suc, Bool, true, false, cond, ◌&&◌, ◌||◌, List, [], ◌∷◌, ◌++◌, length, map, refl, sym, ap, ◌∙◌, append_assoc, arith, subst, Option}
 use Rattle.std.specs.List.{flat_map, AllByRecursion, filter, list_any}
 use Rattle.std.specs.List.Sorted.{IsPermutation}
@@ -48,11 +48,11 @@ over_self : {T : Type 0} (children : List (ℕ × T)) → next_low (λ child. ch
 over_self [] e = refl
 over_self (child ∷ children) e = ap (λ l. (l, child.1) ∷ children) (sym e)
 
--- a full node's own children stand as that node
+-- A full node's own children stand as that node.
 pub full_left : {T : Type 0} (low : ℕ) (children : List (ℕ × T)) → HasFromTo LEAST_CHILDREN MOST_CHILDREN children → next_low (λ child. child.0) 0 children ≡ 0 → left_of low children ≡ (low, children) ∷ []
 full_left low children b e = rw (large LEAST_CHILDREN children b.0, few_are_one_piece MOST_CHILDREN children (let some = b.0 in omega (arith, some)) b.1, over_self children e)
 
--- what is known of a family
+-- What is known of a family.
 record Known (W : NodeId → Bool) (l : ℕ) (f : Family l) : Type 0 where
   family : IsFamily l f
   ids : HasIds W l f
@@ -74,7 +74,7 @@ right_after W l f k = by (is_worked W l f) refl
 still_after : (W : NodeId → Bool) (l : ℕ) (f : Family l) → StandsForItself W (suc l) (result_after W l f)
 still_after W l f n = rw n
 
--- rows
+-- ---- rows
 over_rows : (l : ℕ) (children : List (ℕ × Placed l)) → rows_in (suc l) (value_in (suc l) (node_over children)) ≡ rows_in (suc l) (value_in (suc l) children)
 over_rows l [] = refl
 over_rows l (child ∷ children) = refl
@@ -95,7 +95,7 @@ gone_after W l f k = by (is_worked W l f) (is_small LEAST_CHILDREN (placed_left 
         absurd (cc)
     by false false e q = refl
 
--- cells: what stays where it is
+-- ---- cells: what stays where it is
 stays : (W : NodeId → Bool) (l : ℕ) → Family l → List Cell
 stays W l f = let own = cell_of_site (suc l) f.parent ∷ cells_under l (placed_left l f) in cond (is_worked W l f) (cells_under l (placed_left l f)) own
 
@@ -175,7 +175,7 @@ known_all d l root W rest m m' seen st fs w =
     go [] a b c d e = tt
     go (f ∷ fs) a b c d e = (record { family = a.0; ids = b.0; full = c.0; still = d.0; right = e.0 }, go fs a.1 b.1 c.1 d.1 e.1)
 
--- the cells, level by level
+-- What the map holds afterwards.
 owned_after : (d l : ℕ) (root : Site (raised l (suc d))) (W : NodeId → Bool) (rest : List Cell) (m m' : NodeId → Option Node) (seen : Changes) (st : Stands (suc d) l root W rest m seen) (fs : List (Family l)) → Worked d l root W st.results m m' fs → AllByRecursion (Known W l) fs
     → Owns m' (cells_above d (suc l) root ++ (cells_under (suc l) (pieces_under (suc l) (map (result_after W l) fs)) ++ (flat_map kept_cells (st.kept ++ flat_map (kept_after W l) fs) ++ rest)))
 owned_after d l root W rest m m' seen st fs w k =
@@ -231,7 +231,7 @@ owned_after d l root W rest m m' seen st fs w k =
         kepts : ks ++ flat_map (λ f. flat_map kept_cells (kept_after W l f)) fs ≡ flat_map kept_cells (st.kept ++ flat_map (kept_after W l) fs)
         kepts = ap (λ cs. ks ++ cs) (sym (flat_flat (kept_after W l) kept_cells fs)) ∙ sym (flat_map-append kept_cells st.kept (flat_map (kept_after W l) fs))
 
--- the rows
+-- The loose rows.
 loose_after : (d l : ℕ) (root : Site (raised l (suc d))) (W : NodeId → Bool) (rest : List Cell) (m m' : NodeId → Option Node) (seen : Changes) (st : Stands (suc d) l root W rest m seen) (fs : List (Family l)) → Worked d l root W st.results m m' fs → AllByRecursion (Known W l) fs
     → IsPermutation (seen.loose ++ flat_map kept_rows (st.kept ++ flat_map (kept_after W l) fs)) (flat_map (loose_of (suc l) d) (map (result_after W l) fs))
 loose_after d l root W rest m m' seen st fs w k =
@@ -251,7 +251,7 @@ loose_after d l root W rest m m' seen st fs w k =
         sym (flat_each (Known W l) (λ f. (site_pass (suc l) f.parent).loose) (λ f. gone_of l (placed_left l f) ++ flat_map (λ r. (site_pass l r.site).loose) f.children) (λ f q. parent_loose l f.parent f.children q.family q.right) fs k)
         ∙ sym (flat_map' (result_after W l) (loose_of (suc l) d) fs)
 
--- where the ChangesAt stand for a level, the changes of its families stand for the next
+-- Where the changes stand for a level, the changes of its families stand for the next.
 pub level_stands : (d l : ℕ) (root : Site (raised l (suc d))) (W : NodeId → Bool) (rest : List Cell) (m m' : NodeId → Option Node) (seen : Changes) (st : Stands (suc d) l root W rest m seen) (fs : List (Family l)) → Worked d l root W st.results m m' fs
     → Stands d (suc l) root W rest m' (record { nodes = map (change_of (suc l)) (filter (is_hit W (suc l)) (map (result_after W l) fs)); loose = seen.loose; removed = seen.removed ++ map removed_of (flat_map (kept_after W l) fs) })
 level_stands d l root W rest m m' seen st fs w =

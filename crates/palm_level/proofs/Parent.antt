@@ -45,7 +45,7 @@ joined_values l (r ∷ rs) a =
     ∙ ap (λ ps. ps ++ values l (pieces_under l rs)) a.0
     ∙ ap (λ ps. (site_pass l r.site).pieces ++ ps) (joined_values l rs a.1)
 
--- the node's pieces
+-- The node's pieces.
 pub parent_right : (l : ℕ) (s : Site (suc l)) (rs : List (Result l)) (ids : List NodeId) → map (λ r. r.site) rs ≡ sites_below l s → AllByRecursion (IsPassed l) rs → length ids ≡ length (left_of s.low (pieces_under l rs))
     → values (suc l) (with_ids ids (left_of s.low (pieces_under l rs))) ≡ (site_pass (suc l) s).pieces
 parent_right l s rs ids e a n =
@@ -63,7 +63,7 @@ parent_right l s rs ids e a n =
     by true q = rw (small-map {B = ℕ × Subtree l} (λ (child : ℕ × Placed l). (child.0, value_in l child.1.1)) LEAST_CHILDREN children, q)
     by false q = rw (small-map {B = ℕ × Subtree l} (λ (child : ℕ × Placed l). (child.0, value_in l child.1.1)) LEAST_CHILDREN children, q) (nodes_values l s.low children)
 
--- the node's loose rows
+-- The node's loose rows.
 pub parent_loose : (l : ℕ) (s : Site (suc l)) (rs : List (Result l)) → map (λ r. r.site) rs ≡ sites_below l s → AllByRecursion (IsPassed l) rs
     → (site_pass (suc l) s).loose ≡ gone_of l (pieces_under l rs) ++ flat_map (λ r. (site_pass l r.site).loose) rs
 parent_loose l s rs e a =

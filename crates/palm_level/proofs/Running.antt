@@ -55,7 +55,7 @@ small_is W l g f o r =
     ap (is_small LEAST_CHILDREN) (left_is W l g f o r)
     ∙ small-map {B = Piece} (λ (child : ℕ × Placed l). record { low = child.0; id = child.1.0 }) LEAST_CHILDREN (placed_left l f)
 
--- a family under its group's ids
+-- A family under its group's ids.
 abbrev pub given : {l : ℕ} → Family l → List NodeId → Family l
 given f ids = record { parent = f.parent; children = f.children; ids = ids }
 
@@ -85,13 +85,13 @@ one_kept W l g f o r h = rw (h, small_is W l g f o r, o.id) (by (is_small LEAST_
     by true = refl
     by false = refl
 
--- the groups are the is_touched families', in order
+-- The groups are the touched families', in order.
 pub data Aligned (W : NodeId → Bool) (l : ℕ) : List (Family l) → List Group → List (Family l) → Type 0 where
   none : Aligned W l [] [] []
   other : {fs fs' : List (Family l)} {gs : List Group} (f : Family l) → is_worked W l f ≡ false → Aligned W l fs gs fs' → Aligned W l (f ∷ fs) gs (f ∷ fs')
   this : {fs fs' : List (Family l)} {gs : List Group} (f : Family l) (g : Group) → is_worked W l f ≡ true → IsOf W l g f → Aligned W l fs gs fs' → Aligned W l (f ∷ fs) (g ∷ gs) (given f g.ids ∷ fs')
 
--- what the alignment comes to
+-- What the alignment comes to.
 pub record Matched (W : NodeId → Bool) (l : ℕ) (fs : List (Family l)) (gs : List Group) (fs' : List (Family l)) : Type 0 where
   pub parents : map (λ f. f.parent) fs' ≡ map (λ f. f.parent) fs
   pub children : flat_map (λ f. f.children) fs' ≡ flat_map (λ f. f.children) fs
@@ -136,7 +136,7 @@ matched W l _ _ _ (this {fs} {fs'} {gs} f g h o a) r =
       gone = map-append removed_of (kept_after W l (given f g.ids)) (flat_map (kept_after W l) fs') ∙ ap (λ rs. rs ++ map removed_of (flat_map (kept_after W l) fs')) (one_kept W l g f o r.0 h) ∙ ap (λ rs. group_removed (suc (suc l)) g ++ rs) m.gone;
     }
 
--- the level's work by ids, from level to level
+-- The level's work by ids, from level to level.
 pub run_stands : (d l : ℕ) (root : Site (raised l (suc d))) (W : NodeId → Bool) (rest : List Cell) (m m' : NodeId → Option Node) (seen seen' : Changes) (st : Stands (suc d) l root W rest m seen) (fs fs' : List (Family l)) (gs : List Group)
     → map (λ f. f.parent) fs ≡ sites_at d (suc l) root → flat_map (λ f. f.children) fs ≡ st.results → AllByRecursion (Ready W l) fs → Aligned W l fs gs fs'
     → Turns m m' (flat_map cells_before gs) (flat_map cells_after gs) → seen' ≡ record { nodes = map group_change gs; loose = seen.loose; removed = seen.removed ++ flat_map (group_removed (suc (suc l))) gs }

@@ -1,4 +1,4 @@
--- The results of a level by their parents, and the runs of the ChangesAt.
+-- The results of a level by their parents, and the runs of the changes.
 use Rattle.std.proofs.Common.{◌≡◌, ◌≢◌, ℕ, suc, Bool, true, false, cond, ◌||◌, List, [], ◌∷◌, ◌++◌, map, refl, sym, ap, ◌∙◌, subst, eq-eqb, eqb-true, Option, append_assoc}
 use Rattle.std.specs.List.{flat_map, filter, AllByRecursion, list_any}
 use Rattle.std.proofs.lemmas.List.Elements.{filter-append}
@@ -23,7 +23,7 @@ use Rattle.palm_arena.proofs.Keeping.{same_id}
 use Rattle.palm_level.specs.Tasks.{Distinct}
 use Rattle.palm_level.specs.Families.{Family, is_worked, IsFamily}
 
--- the families of a level's results
+-- The families of a level's results.
 pub record Split (l : ℕ) (ps : List (Site (suc l))) (rs : List (Result l)) : Type 0 where
   pub families : List (Family l)
   pub parents : map (λ f. f.parent) families ≡ ps
@@ -43,7 +43,7 @@ split l (p ∷ ps) rs e =
       own = (t.of_first, s.own);
     }
 
--- the is_touched children of a family
+-- The touched children of a family.
 abbrev pub family_changes : (NodeId → Bool) → (l : ℕ) → Family l → List Change
 family_changes W l f = map (change_of l) (filter (is_hit W l) f.children)
 
@@ -70,7 +70,7 @@ pub family_parents : (W : NodeId → Bool) (l : ℕ) (f : Family l) → IsFamily
 family_parents W l f e =
     changes_parents W l f.parent.place.0 f.children (map_all (λ (s : Site l). (last_step s.path).0 ≡ f.parent.place.0) (λ r. r.site) f.children (subst (AllByRecursion (λ (s : Site l). (last_step s.path).0 ≡ f.parent.place.0)) (sym e) (site_parents l f.parent.path f.parent.place.0 0 f.parent.place.1 f.parent.edits)))
 
--- what begins the runs of a list
+-- What begins the runs of a list.
 abbrev Begins : Change → List (List Change) → Type 0
 Begins x [] = ⊥
 Begins x ([] ∷ rs) = ⊥
@@ -138,7 +138,7 @@ parents_distinct l m (p ∷ ps) rest o =
     let f = owned_front m p.place.0 (cell_of_site (suc l) p).1 (map (cell_of_site (suc l)) ps ++ rest) o in
     (others_at l p.place.0 ps rest f.1, parents_distinct l m ps (rest ++ cell_of_site (suc l) p ∷ []) (owned_same m (cell_of_site (suc l) p ∷ (map (cell_of_site (suc l)) ps ++ rest)) (map (cell_of_site (suc l)) ps ++ (rest ++ cell_of_site (suc l) p ∷ [])) o (λ i. same_swap (cell_of_site (suc l) p ∷ []) (map (cell_of_site (suc l)) ps ++ rest) i ∙ ap (found_at i) (append_assoc (map (cell_of_site (suc l)) ps) rest (cell_of_site (suc l) p ∷ [])))))
 
--- a is_touched node has a is_touched child
+-- A touched node has a touched child.
 pub some_hit : (W : NodeId → Bool) (l : ℕ) (rs : List (Result l)) → filter (is_hit W l) rs ≡ [] → list_any (λ (child : ℕ × Placed l). is_touched W l child.1) (map {B = ℕ × Placed l} (λ s. (s.low, s.place)) (map (λ r. r.site) rs)) ≡ false
 some_hit W l [] e = refl
 some_hit W l (r ∷ rs) e = by (is_hit W l r) e (some_hit W l rs)
@@ -160,7 +160,7 @@ no_hit W l (r ∷ rs) e = by (is_hit W l r) e (no_hit W l rs)
 pub family_any : (W : NodeId → Bool) (l : ℕ) (f : Family l) → IsFamily l f → list_any (λ (child : ℕ × Placed l). is_touched W l child.1) (map {B = ℕ × Placed l} (λ s. (s.low, s.place)) (map (λ r. r.site) f.children)) ≡ is_worked W l f
 family_any W l f e = ap (list_any (λ (child : ℕ × Placed l). is_touched W l child.1)) (ap (map {B = ℕ × Placed l} (λ s. (s.low, s.place))) e ∙ sites_children l f.parent.path f.parent.place.0 0 f.parent.place.1 f.parent.edits)
 
--- of two families one after the other, the next is_touched one has another id
+-- Of two families one after the other, the next touched one has another id.
 abbrev pub ids_in : {l : ℕ} → List (Family l) → List NodeId
 ids_in fs = map (λ f. f.parent.place.0) fs
 
@@ -172,7 +172,7 @@ apart_next W l id (f ∷ fs) a d = by (family_changes W l f) (family_parents W l
     by [] p ih = ih
     by (c ∷ cs) p ih = λ e. d.0 (e ∙ p.0)
 
--- the runs of the ChangesAt are the changes of each is_touched node's children
+-- The runs of the changes are the changes of each touched node's children.
 pub family_runs : (W : NodeId → Bool) (l : ℕ) (fs : List (Family l)) → AllByRecursion (IsFamily l) fs → Distinct (ids_in fs) → runs (flat_map (family_changes W l) fs) ≡ map (family_changes W l) (filter (is_worked W l) fs)
 family_runs W l [] a d = refl
 family_runs W l (f ∷ fs) a d = by (is_worked W l f) refl (family_runs W l fs a.1 d.1)

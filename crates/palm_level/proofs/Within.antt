@@ -27,7 +27,7 @@ left_more low children = by (is_small LEAST_CHILDREN children)
         let n : length (nodes_over low children) ≡ piece_count MOST_CHILDREN (length children) = named_length (λ child. child.0) node_over low (cut MOST_CHILDREN children) ∙ pieces_are_counted MOST_CHILDREN children in
         omega arith
 
--- what stands for children is no more than they and the pieces past the first
+-- What stands for children is no more than they and the pieces past the first.
 pub under_more : (W : NodeId → Bool) (l : ℕ) (rs : List (Result l)) → AllByRecursion (StandsForItself W l) rs → length (pieces_under l rs) ≤ length rs + sum_by (λ r. past_first r.pieces) (filter (is_hit W l) rs)
 under_more W l [] a = omega arith
 under_more W l (r ∷ rs) a = by (is_hit W l r) refl (under_more W l rs a.1)
@@ -37,6 +37,6 @@ under_more W l (r ∷ rs) a = by (is_hit W l r) refl (under_more W l rs a.1)
     by true h ih = let c = sum_by-cons (λ (r : Result l). past_first r.pieces) r (filter (is_hit W l) rs) in simp length-append (omega arith)
     by false h ih = let one : length r.pieces ≡ 1 = ap length (a.0 h) in simp length-append (omega arith)
 
--- what a node's work takes, where the node had at most sixteen children
+-- What a node's work takes, where the node had at most sixteen children.
 pub family_more : (W : NodeId → Bool) (l low : ℕ) (rs : List (Result l)) → AllByRecursion (StandsForItself W l) rs → length rs ≤ 16 → past_first (left_of low (pieces_under l rs)) ≤ sum_by (λ r. past_first r.pieces) (filter (is_hit W l) rs)
 family_more W l low rs a n = let u = under_more W l rs a in let m = left_more low (pieces_under l rs) in omega arith
