@@ -1,8 +1,8 @@
 pub mod AddedParts
 pub mod Ascents
+pub mod CutShares
 pub mod Descents
 pub mod GroupedParts
-pub mod JoinedParts
 pub mod LaterLows
 pub mod LeavesUnder
 pub mod ListLeaves
@@ -11,3 +11,4 @@ pub mod PartEdits
 pub mod PartSteps
 pub mod Routings
 pub mod SortedParts
+pub mod TakenParts

@@ -1,6 +1,6 @@
 -- The parts of keys and of entries, one more at a time.
-use Rattle.std.proofs.Common.{◌≡◌, ℕ, zero, suc, ◌+◌, ◌<◌, List, [], ◌∷◌, ◌++◌, length, take, slice_get, get_or, Some, refl, sym, ap, arith, append_assoc, ◌∙◌}
-use Rattle.std.specs.List.{range_with_len}
+use Rattle.std.proofs.Common.{◌≡◌, ℕ, zero, suc, ◌+◌, ◌<◌, List, [], ◌∷◌, ◌++◌, length, take, slice_get, get_or, Some, refl, sym, ap, subst, arith, append_assoc, ◌∙◌, add-one}
+use Rattle.std.specs.List.{range_with_len, AllByRecursion}
 use Rattle.std.specs.Option.{option_map}
 use Rattle.std.proofs.lemmas.List.{append-nil, length-map}
 use Rattle.std.proofs.lemmas.List.FromFn.{length-range_with_len, get_or-range_with_len}
@@ -62,3 +62,12 @@ entry_added places entries i entry now next got so_far more =
 
 pub fronts_length : (number : List ℕ) → length (front_keys number) ≡ length number
 fronts_length number = length-map (range_with_len 1 (length number)) (λ m. key (take m number)) ∙ length-range_with_len 1 (length number)
+
+-- What holds of the items so far and of the next holds of all up to the next.
+all_suc : {X : Type 0} (P : X → Type 0) (xs : List X) (i : ℕ) (x : X) → slice_get xs i ≡ Some x → AllByRecursion P (take i xs) → P x → AllByRecursion P (take (suc i) xs)
+all_suc P [] i x e all p = absurd cc
+all_suc P (y ∷ ys) zero x e all p = (let same : y ≡ x = cc in subst P (sym same) p, tt)
+all_suc P (y ∷ ys) (suc i) x e all p = (all.0, all_suc P ys i x e all.1 p)
+
+pub all_next : {X : Type 0} (P : X → Type 0) (xs : List X) (i : ℕ) (x : X) → slice_get xs i ≡ Some x → AllByRecursion P (take i xs) → P x → AllByRecursion P (take (i + 1) xs)
+all_next P xs i x e all p = rw (add-one i) (all_suc P xs i x e all p)

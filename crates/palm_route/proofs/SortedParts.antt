@@ -5,16 +5,13 @@ use Rattle.std.specs.List.Sorted.{IsPermutation, IsNonDecreasingBy, IsSortedByKe
 use Rattle.std.specs.Ordering.{nat_cmp, is_lt}
 use Rattle.std.specs.declared.cmp.Ordering.TheVariants.{Less, Equal, Greater}
 use Rattle.std.proofs.lemmas.Bool.{cases_lt, lt-ltb, le-ltb, ne_eqb}
-use Rattle.std.proofs.lemmas.List.{append-nil, map-append, take_all, take_more, drop_all, get_or_default}
-use Rattle.std.proofs.lemmas.List.Sums.{fold_push}
-use Rattle.std.proofs.lemmas.Option.{slice_get_within, get_or_from_slice_get}
+use Rattle.std.proofs.lemmas.List.{append-nil, take_all, drop_all}
 use Rattle.std.proofs.lemmas.List.Elements.{filter_agree, All-from_recursion, recursion_from_All}
 use Rattle.std.proofs.lemmas.List.Sorted.{IsNonDecreasingBy-from_sort, All-permutation}
 use Rattle.palm_arena.specs.Leaves.{LeafPlace}
 use Rattle.palm_route.specs.declared.part.Routed.{Routed}
 use Rattle.palm_route.specs.Groups.{IsRoutedTo, LowsRise, groups_of}
-use Rattle.palm_route.specs.declared.part.Group.{Group}
-use Rattle.palm_route.specs.Runs.{with_routed, runs_of}
+use Rattle.palm_route.specs.Runs.{runs_of}
 use Rattle.palm_route.specs.declared.grouping.Mark.{Mark}
 use Rattle.palm_route.specs.Marks.{marks_from, marked, at_low}
 use Rattle.palm_base.proofs.Every.{every_weaker}
@@ -148,18 +145,6 @@ pub mark_added : (routed : List Routed) (i : ℕ) (one : Routed) (now next : Lis
 mark_added routed i one now next got so_far more =
     let n : suc i ≡ i + 1 = omega arith in
     more ∙ ap (λ (l : List Mark). l ++ record { low = one.low; place = i } ∷ []) so_far ∙ sym (marks_more 0 routed i one i got (omega arith)) ∙ ap (λ j. marks_from 0 (take j routed)) n
-
--- One more marked part is put to the groups.
-pub run_added : (all : List Routed) (marks : List Mark) (i : ℕ) (mark : Mark) (one : Routed) (now next : List Group) → slice_get marks i ≡ Some mark → one ≡ get_or all mark.place one → mark.place < length all
-    → now ≡ runs_of (map (marked all) (take i marks)) → next ≡ with_routed now one → next ≡ runs_of (map (marked all) (take (i + 1) marks))
-run_added all marks i mark one now next got at inside so_far more =
-    let own : marked all mark ≡ one = get_or_default all mark.place (at_low mark.low) one inside ∙ sym at in
-    let longer : take (i + 1) marks ≡ take i marks ++ mark ∷ [] = take_more marks i mark (slice_get_within marks i mark got) ∙ ap (λ m. take i marks ++ m ∷ []) (get_or_from_slice_get marks i mark mark got) in
-    more ∙ ap (λ (gs : List Group). with_routed gs one) so_far
-    ∙ sym (fold_push with_routed [] (map (marked all) (take i marks)) one)
-    ∙ ap (λ r. runs_of (map (marked all) (take i marks) ++ r ∷ [])) (sym own)
-    ∙ ap runs_of (sym (map-append (marked all) (take i marks) (mark ∷ [])))
-    ∙ ap (λ l. runs_of (map (marked all) l)) (sym longer)
 
 -- What stands in a vector after all of its places are written.
 pub whole_written : {X : Type 0} (xs new : List X) (n : ℕ) → n ≡ length xs → length new ≡ length xs → take n (new ++ drop (length new) xs) ≡ new

@@ -6,3 +6,4 @@ pub mod Meets
 pub mod Parts
 pub mod Ranges
 pub mod Runs
+pub mod Shares

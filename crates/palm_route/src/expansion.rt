@@ -4,6 +4,8 @@ ghost use Rattle.palm_arena.specs.Leaves.{leaves_at, leaves_under};
 ghost use Rattle.palm_arena.specs.Reads.{map_of, HasTree};
 ghost use Rattle.palm_base.specs.Key.{key};
 ghost use Rattle.palm_node.specs.declared.id.NodeId.{NodeId};
+ghost use Rattle.std.specs.List.{AllByRecursion};
+ghost use Rattle.palm_route.specs.Edits.{EditsPrefix};
 ghost use Rattle.palm_route.specs.Parts.{lows_of, is_later, list_keys, front_keys, parts_by_keys, parts_of_call, parts_of};
 ghost use Rattle.palm_route.specs.Ranges.{HasRange};
 ghost use Rattle.palm_route.specs.declared.part.Ask.TheVariants as ask;
@@ -127,6 +129,7 @@ fn append_call(
 ) -> Result<(), NoMemory>
     requires tree { HasTree (map_of arena.now.places) shape }
     ensures ok { OnOk result (parts.new ≡ parts.old ++ parts_of_call (leaves_at (map_of arena.now.places) shape) entry call.now) }
+    ensures prefix { EditsPrefix call.now }
 {
     match call {
         Call::Set { prefix, rate } => parts.push(Part {
@@ -170,7 +173,8 @@ pub fn expand(
     batch: &[Entry],
 ) -> Result<PartList, NoMemory>
     requires tree { HasTree (map_of arena.now.places) shape }
-    ensures { IfOk result (λ parts. parts ≡ parts_of (leaves_at (map_of arena.now.places) shape) 0 batch.now) }
+    ensures parts { IfOk result (λ parts. parts ≡ parts_of (leaves_at (map_of arena.now.places) shape) 0 batch.now) }
+    ensures prefixes { OnOk result (AllByRecursion (λ entry. EditsPrefix entry.call) batch.now) }
 {
     let mut parts = PartList::new(alloc);
     for (place, entry) in batch.iter().enumerate() {

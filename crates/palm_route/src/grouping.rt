@@ -1,16 +1,16 @@
 // Parts put together by leaf.
-ghost use Rattle.std.specs.Prelude.{◌≡◌, ◌<◌, List, length, map, All, IfOk, OnOk, IsPermutation, IsSortedByKey};
-ghost use Rattle.std.specs.List.{AllByRecursion};
+ghost use Rattle.std.specs.Prelude.{◌≡◌, ◌<◌, List, length, map, slice_index_or, slice_set, Some, None, IfOk, OnOk, IsPermutation, IsSortedByKey};
+ghost use Rattle.std.specs.List.{AllByRecursion, IsDistinct};
 ghost use Rattle.std.specs.List.Sorted.{IsStableByKey};
 ghost use Rattle.std.specs.Ordering.{nat_cmp};
 ghost use Rattle.palm_arena.specs.Leaves.{LeafPlace};
 ghost use Rattle.palm_route.specs.Groups.{IsRoutedTo, LowsRise, groups_of};
-ghost use Rattle.palm_route.specs.Marks.{marks_from, marked};
+ghost use Rattle.palm_route.specs.Marks.{marks_from, part_at, same_place};
+ghost use Rattle.palm_route.specs.declared.part.Routed.{Routed};
 ghost use Rattle.palm_route.specs.Runs.{group_with, with_routed, runs_of};
 
 use crate::part::{Group, Groups, PartList, Routed, RoutedList};
 use palm_base::NoMemory;
-use palm_node::ItemList;
 use rayon::prelude::*;
 use std::alloc::{AllocError, Global};
 use std::thread::Threads;
@@ -81,23 +81,40 @@ fn add(alloc: Global, groups: &mut Vec<Group>, routed: Routed) -> Result<(), NoM
     Ok(())
 }
 
-// A routed part once more, for its group.
-fn copy_of(routed: &Routed) -> Result<Routed, NoMemory>
-    ensures { IfOk result (λ copy. copy ≡ routed.now) }
+// The parts, each where it can be taken out.
+fn slots_of(alloc: Global, routed: RoutedList) -> Result<Vec<Option<Routed>>, NoMemory>
+    ensures { IfOk result (λ slots. slots.items ≡ map (λ one. Some one) routed) }
 {
-    Ok(routed.clone()?)
+    let mut slots = Vec::with_capacity(alloc, routed.len())?;
+    for one in routed.into_vec() {
+        slots.push(Some(one))?;
+    }
+    Ok(slots)
 }
 
-// Puts parts together in the order of these marks, which come leaf by leaf.
-fn runs(alloc: Global, routed: &[Routed], marks: &[Mark]) -> Result<Groups, NoMemory>
-    requires inside { All (λ mark. mark.place < length routed.now) marks.now }
-    ensures { IfOk result (λ groups. groups ≡ runs_of (map (marked routed.now) marks.now)) }
+// Takes the part out that stands at a place.
+fn take_at(slots: &mut [Option<Routed>], place: usize) -> Option<Routed>
+    requires { place < length slots.old }
+    ensures taken { result ≡ slice_index_or slots.old place None }
+    ensures left { slots.new ≡ slice_set slots.old place None }
+{
+    slots[place].take()
+}
+
+// Puts parts together in the order of these marks, which come leaf by leaf. It takes each marked part out.
+fn runs(alloc: Global, slots: &mut [Option<Routed>], marks: &[Mark]) -> Result<Groups, NoMemory>
+    requires once { IsDistinct same_place marks.now }
+    requires there { (parts : List Routed) × (map (part_at slots.old) marks.now ≡ map (λ one. Some one) parts) }
+    ensures { IfOk result (λ groups. (parts : List Routed) → map (part_at slots.old) marks.now ≡ map (λ one. Some one) parts → groups ≡ runs_of parts) }
 {
     let mut groups = Vec::new(alloc);
     for mark in marks {
-        add(alloc, &mut groups, copy_of(&routed[mark.place])?)?;
+        let Some(one) = take_at(slots, mark.place) else {
+            unreachable!()
+        };
+        add(alloc, &mut groups, one)?;
     }
-    Ok(ItemList::from_vec(groups))
+    Ok(Groups::from_list(groups))
 }
 
 /// Puts routed parts together by leaf. The groups stand in the order of the leaves, and the parts of a group in the order in
@@ -111,5 +128,6 @@ pub fn group<R: Threads + Sync>(
 {
     let mut marks = marks_of(alloc, routed.as_slice())?;
     sort(rt, alloc, marks.as_mut_slice())?;
-    runs(alloc, routed.as_slice(), marks.as_slice())
+    let mut slots = slots_of(alloc, routed)?;
+    runs(alloc, slots.as_mut_slice(), marks.as_slice())
 }

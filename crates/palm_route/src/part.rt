@@ -1,14 +1,14 @@
+ghost use Rattle.std.specs.Prelude.{◌≡◌, length, ◌==◌};
+
 use palm_base::{Amount, Digits, Limit};
 use palm_node::{ItemList, NodeId, Path};
+use std::marker::Model;
 
 /// Parts of calls, in order. Contracts see the list.
 pub type PartList = ItemList<Part>;
 
 /// Routed parts, in order. Contracts see the list.
 pub type RoutedList = ItemList<Routed>;
-
-/// Touched leaves, in order. Contracts see the list.
-pub type Groups = ItemList<Group>;
 
 /// What a part asks of its leaf.
 #[derive(Clone, Copy, Debug, PartialEq, Eq)]
@@ -28,7 +28,7 @@ pub enum Ask {
 }
 
 /// A part of a call, which one leaf answers.
-#[derive(Clone, Debug, Drop)]
+#[derive(Debug, Drop)]
 pub struct Part {
     /// The place of the call's entry in the batch, counted from 0.
     pub entry: u64,
@@ -40,7 +40,7 @@ pub struct Part {
 }
 
 /// A part with the leaf whose range has its key.
-#[derive(Clone, Debug, Drop)]
+#[derive(Debug, Drop)]
 pub struct Routed {
     pub part: Part,
     /// The leaf.
@@ -62,4 +62,49 @@ pub struct Group {
     pub low: u64,
     /// The leaf's parts in the order in which their calls arrived.
     pub parts: PartList,
+}
+
+/// The touched leaves with their parts, in the order of the leaves. Contracts see the list of groups.
+#[derive(Debug, Drop)]
+pub struct Groups {
+    groups: Vec<Group>,
+}
+
+impl Model for Groups {
+    ghost use Rattle.std.specs.Prelude.{List};
+    ghost use Rattle.palm_route.specs.declared.part.Group.{Group};
+
+    ghost Value = { List Group };
+
+    ghost view = { λ a. a.groups.items };
+}
+
+impl Groups {
+    // The groups of a vector, in the memory that they stand in.
+    pub(crate) fn from_list(groups: Vec<Group>) -> Groups
+        ensures { result ≡ groups.items }
+    {
+        Groups { groups }
+    }
+
+    /// The groups as a vector, in the memory that they stand in.
+    pub fn into_list(self) -> Vec<Group>
+        ensures { result.items ≡ self }
+    {
+        self.groups
+    }
+
+    /// The number of groups.
+    pub fn len(&self) -> usize
+        ensures { result ≡ length self.now }
+    {
+        self.groups.len()
+    }
+
+    /// Whether there is no group.
+    pub fn is_empty(&self) -> bool
+        ensures { result ≡ (length self.now == 0) }
+    {
+        self.groups.is_empty()
+    }
 }

@@ -6,10 +6,11 @@ use super::*;
 use palm_arena::{Arena, Shape};
 use palm_base::{Amount, Call, Digits, Entry, Limit, NoMemory, Steps};
 use palm_node::{Leaf, Node, NodeId, Path};
-use palm_share::OpenGate;
+use palm_share::{Gate, Who};
 use std::alloc::Global;
 use std::marker::Brand;
 use std::process::Abort;
+use std::sync::atomic::{AtomicU64, Ordering};
 use std::sync::ledger::{Blank, Ledger};
 use std::test::Fail;
 use std::thread::Threads;
@@ -58,7 +59,7 @@ fn groups_parts_by_leaf(rt: HostRuntime) -> Result<(), Fail> {
     }
     let groups = group(&rt, rt.alloc(), routed)?;
     assert_eq!(rt; groups.len(), 2);
-    for (i, group) in groups.into_vec().as_slice().iter().enumerate() {
+    for (i, group) in groups.into_list().iter().enumerate() {
         if i == 0 {
             assert_group(&rt, group, 1, &[1, 2]);
         } else {
@@ -110,13 +111,26 @@ fn calls(rt: &impl Abort) -> [Call; 5] {
     ]
 }
 
-// The calls have seven parts, and all of them go to the one leaf.
+// Counts how often it is passed.
+#[derive(Drop)]
+struct Passed {
+    count: AtomicU64,
+}
+
+impl Gate for Passed {
+    fn pass(&self, _who: Who, _turn: u64) {
+        self.count.fetch_add(1, Ordering::SeqCst);
+    }
+}
+
+// The calls have seven parts, which go to the one leaf in this number of shares.
 fn assert_routed(
     rt: &(impl Abort + Threads + Sync),
     alloc: Global,
     arena: &Arena,
     shape: Shape,
     workers: u32,
+    shares: u64,
 ) -> Result<(), NoMemory>
     requires tree { HasTree (map_of arena.now.places) shape }
     requires some { 1 ≤ workers }
@@ -132,11 +146,19 @@ fn assert_routed(
     }
     let parts = expand(alloc, arena, shape, &batch)?;
     assert_eq!(rt; parts.len(), 7);
-    let routed = descend(rt, alloc, arena, shape, parts, workers, &OpenGate)?;
+    let gate = Passed {
+        count: AtomicU64::new(0),
+    };
+    let routed = descend(rt, alloc, arena, shape, parts, workers, &gate)?;
+    assert_eq!(rt;
+        gate.count.load(Ordering::SeqCst),
+        shares,
+        "{workers} workers"
+    );
     let groups = group(rt, alloc, routed)?;
     assert_eq!(rt; groups.len(), 1);
-    for group in groups.as_slice() {
-        assert_group(rt, group, shape.root.place, &[0, 1, 2, 3, 3, 3, 4]);
+    for group in groups.into_list() {
+        assert_group(rt, &group, shape.root.place, &[0, 1, 2, 3, 3, 3, 4]);
     }
     Ok(())
 }
@@ -144,8 +166,9 @@ fn assert_routed(
 #[test]
 fn routes_each_call_to_the_leaf_of_an_empty_tree(rt: HostRuntime) -> Result<(), Fail> {
     let (arena, shape) = empty_tree::<Brand>(rt.alloc(), Blank::new(1))?;
-    for workers in [1, 2, 3, 64] {
-        assert_routed(&rt, rt.alloc(), &arena, shape, workers)?;
+    // in shares of 7, 4, 3, 2 and 1
+    for (workers, shares) in [(1, 1), (2, 2), (3, 3), (4, 4), (5, 4), (64, 7)] {
+        assert_routed(&rt, rt.alloc(), &arena, shape, workers, shares)?;
     }
     Ok(())
 }

@@ -1,35 +1,34 @@
 use Rattle.std.proofs.Common.{length, subst, ap, arith, ◌∙◌}
-use Rattle.std.specs.List.{AllZip}
+use Rattle.std.specs.List.{AllZip, flat_map}
+use Rattle.std.proofs.lemmas.List.{length-map}
 use Rattle.std.proofs.lemmas.List.Elements.{All-from_recursion}
 use Rattle.palm_share.specs.Jobs.{Holds, Relates}
+use Rattle.palm_route.specs.Shares.{routed_of}
+use Rattle.palm_route.specs.declared.part.Routed.{Routed}
 use Rattle.palm_route.proofs.SortedParts.{whole_written}
-use Rattle.palm_route.proofs.JoinedParts.{StartsAt, Ends, IsReady, Ran, all_ready, all_there, are_routed, zip_length}
+use Rattle.palm_route.proofs.CutShares.{Ran, all_there, are_routed}
 use Rattle.palm_route.proofs.descent.descend.Goals as goal
 
-pub each_mut-requires-clause-ready : goal.each_mut-requires-clause-ready
-each_mut-requires-clause-ready g c κs lives =
-    let starts = c.in_ok-descents.ensures in
-    rw c.as_mut_slice.ensures.value
-    (All-from_recursion (Holds IsReady) c.in_ok-descents.descents.items (all_ready c.args.arena.now c.args.shape c.args.parts c.in_ok-descents.descents.items c.requires.tree starts))
-
-pub move_routed-requires-clause-there : goal.move_routed-requires-clause-there
-move_routed-requires-clause-there g c =
-    let old = c.in_ok-descents.descents in
+pub join-requires-clause-there : goal.join-requires-clause-there
+join-requires-clause-there g c =
+    let old = c.in_ok-works.works in
     let whole = whole_written old.items c.each_mut.new.items old.len old.ok.0 (c.each_mut.ensures.len ∙ ap length c.as_mut_slice.ensures.value) in
-    rw whole (All-from_recursion (Holds (λ _. Unit {0})) c.each_mut.new.items (all_there c.as_mut_slice.result.now c.each_mut.new.items c.each_mut.ensures.ran))
+    rw whole (All-from_recursion (Holds (λ _. Unit {0})) c.each_mut.new.items (all_there Ran c.as_mut_slice.result.now c.each_mut.new.items c.each_mut.ensures.ran))
 
-pub move_routed-requires-clause-room : goal.move_routed-requires-clause-room
-move_routed-requires-clause-room g c =
-    let old = c.in_ok-descents.descents in
-    let same = c.each_mut.ensures.len ∙ ap length c.as_mut_slice.ensures.value in
-    let whole = whole_written old.items c.each_mut.new.items old.len old.ok.0 same in
-    rw whole (omega (arith, same, zip_length (StartsAt c.args.arena.now c.args.shape) c.args.parts old.items c.in_ok-descents.ensures, c.len.ensures, c.in_ok-routed.ensures.capacity))
+pub join-requires-clause-room : goal.join-requires-clause-room
+join-requires-clause-room g c =
+    let old = c.in_ok-works.works in
+    let new = c.each_mut.new.items in
+    let ran : AllZip (Relates Ran) old.items new = subst (λ l. AllZip (Relates Ran) l new) c.as_mut_slice.ensures.value c.each_mut.ensures.ran in
+    let all = are_routed c.args.arena.now c.args.shape c.max-size.result c.args.parts old.items new c.in_ok-works.ensures.shares c.in_ok-works.ensures.begin ran in
+    let whole = whole_written old.items new old.len old.ok.0 (c.each_mut.ensures.len ∙ ap length c.as_mut_slice.ensures.value) in
+    rw whole (omega (arith, ap length all.same, length-map (flat_map routed_of new) (λ (one : Routed). one.part), c.len.ensures, c.in_ok-routed.ensures.capacity))
 
 pub returns : goal.returns
 returns g c =
-    let old = c.in_ok-descents.descents in
-    let whole = whole_written old.items c.each_mut.new.items old.len old.ok.0 (c.each_mut.ensures.len ∙ ap length c.as_mut_slice.ensures.value) in
-    let ran : AllZip (Relates Ran) old.items c.each_mut.new.items = subst (λ l. AllZip (Relates Ran) l c.each_mut.new.items) c.as_mut_slice.ensures.value c.each_mut.ensures.ran in
-    let ends : AllZip Ends c.each_mut.new.items c.move_routed.new.routed.items = subst (λ l. AllZip Ends l c.move_routed.new.routed.items) whole c.move_routed.ensures in
-    let all = are_routed c.args.arena.now c.args.shape c.args.parts old.items c.each_mut.new.items c.move_routed.new.routed.items c.in_ok-descents.ensures ran ends in
-    record { parts = rw c.from_vec.ensures all.same; routed = rw c.from_vec.ensures all.at_leaves }
+    let old = c.in_ok-works.works in
+    let new = c.each_mut.new.items in
+    let ran : AllZip (Relates Ran) old.items new = subst (λ l. AllZip (Relates Ran) l new) c.as_mut_slice.ensures.value c.each_mut.ensures.ran in
+    let all = are_routed c.args.arena.now c.args.shape c.max-size.result c.args.parts old.items new c.in_ok-works.ensures.shares c.in_ok-works.ensures.begin ran in
+    let whole = whole_written old.items new old.len old.ok.0 (c.each_mut.ensures.len ∙ ap length c.as_mut_slice.ensures.value) in
+    record { parts = rw (c.from_vec.ensures, c.join.ensures, whole) all.same; routed = rw (c.from_vec.ensures, c.join.ensures, whole) all.at_leaves }

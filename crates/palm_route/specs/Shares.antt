@@ -1,0 +1,26 @@
+-- Shares of parts, each of which one worker routes.
+use Rattle.std.specs.Prelude.{◌≡◌, ℕ, ◌<◌, ◌≤◌, List, [], ◌∷◌, length, take, drop, Option, Some, None}
+use Rattle.std.specs.Vec.{vec_capacity}
+use Rattle.palm_route.specs.declared.descent.DescentWork.{DescentWork}
+use Rattle.palm_route.specs.declared.part.Part.{Part}
+use Rattle.palm_route.specs.declared.part.Routed.{Routed}
+
+-- The parts of a share that is there.
+abbrev pub share_of : Option DescentWork → List Part
+share_of None = []
+share_of (Some work) = work.parts.items
+
+-- The routed parts of a share that is there.
+abbrev pub routed_of : Option DescentWork → List Routed
+routed_of None = []
+routed_of (Some work) = work.routed.items
+
+-- No part is routed yet, and there is room for all.
+abbrev pub HasRoom : DescentWork → Type 0
+HasRoom work = (work.routed.items ≡ []) × (length work.parts.items ≤ vec_capacity work.routed)
+
+-- The shares have these parts, in order: each has `size` of them, and the last may have fewer. None is empty.
+-- So five parts in shares of two are two, two and one, and no parts are no shares.
+abbrev pub AreCut : ℕ → List Part → List (List Part) → Type 0
+AreCut size parts [] = parts ≡ []
+AreCut size parts (share ∷ shares) = (share ≡ take size parts) × (0 < length share) × AreCut size (drop size parts) shares
