@@ -125,3 +125,9 @@ batches_keep_law tree calls lawful = (lawful.0 + highest calls, (lawful_batch tr
 
 pub second_pass_is_whole : SecondPassIsWhole
 second_pass_is_whole tree rows lawful = base_sets tree.0 lawful.0 tree.1 (map set_of rows) lawful.1 (sets_are rows)
+
+-- One pass leaves a lawful tree too.
+pub pass_keeps_law : (tree : Tree) (edits : List Call) → IsLawful tree → IsLawful (passed_tree tree edits)
+pass_keeps_law tree edits lawful =
+    let h = lawful.0 + highest edits in
+    (h, (base_holds tree.0 h tree.1 edits (root_wider tree.0 lawful.0 h tree.1 lawful.1 (omega arith)) (adds_below h edits (omega arith))).tree.root)

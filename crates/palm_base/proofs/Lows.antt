@@ -188,7 +188,7 @@ top_in_keys (suc levels) n (piece ∷ next ∷ more) later under =
     by true higher keys = node_over_keys n (piece ∷ next ∷ more) later under
     by false higher keys = keys
 
-passed_keys : (tree : Tree) (edits : List Call) → LowsAreKeys tree → AllByRecursion SetsPrefix edits → LowsAreKeys (passed_tree tree edits)
+pub passed_keys : (tree : Tree) (edits : List Call) → LowsAreKeys tree → AllByRecursion SetsPrefix edits → LowsAreKeys (passed_tree tree edits)
 unfolding top
 passed_keys tree edits keys sets =
     let fair = base_fair tree.0 tree.1 edits keys sets in
