@@ -10,7 +10,8 @@ use Rattle.palm_base.proofs.Cuts.{pieces_join}
 use Rattle.palm_node.specs.declared.id.NodeId.{NodeId}
 use Rattle.palm_node.specs.declared.node.Node.TheVariants.{Inner}
 use Rattle.palm_arena.specs.Cells.{both, found_at, SameCells}
-use Rattle.palm_arena.specs.Placed.{Body, Placed, value_in, values, cells_of, cells_under, ids_of_children, lows_between, with_ids, own_cells}
+use Rattle.palm_arena.specs.Placed.{Body, Placed, value_in, values, cells_of, cells_under, ids_of_children, with_ids, own_cells}
+use Rattle.palm_arena.specs.Routes.{separators_of}
 use Rattle.palm_arena.proofs.Natural.{cut-map, inside, with_lows-map, node_over-map}
 use Rattle.palm_arena.proofs.CellLists.{at-append, same_cross}
 
@@ -51,10 +52,10 @@ ids_cells n [] [] e i = refl
 ids_cells n [] (p ∷ ps) e i = absurd (omega arith)
 ids_cells n (id ∷ ids) [] e i = absurd (omega arith)
 ids_cells n (id ∷ ids) (p ∷ ps) e i =
-    at-append i ((id, Inner (record { children = ids_of_children p.1; separators = lows_between p.1 })) ∷ cells_under n p.1) (cells_under (suc n) (with_ids ids ps))
-    ∙ ap (both (found_at i ((id, Inner (record { children = ids_of_children p.1; separators = lows_between p.1 })) ∷ cells_under n p.1))) (ids_cells n ids ps (omega arith) i)
-    ∙ sym (at-append i ((id, Inner (record { children = ids_of_children p.1; separators = lows_between p.1 })) ∷ cells_under n p.1) (own_cells n ids ps ++ flat_map (λ p. cells_under n p.1) ps))
-    ∙ same_cross ((id, Inner (record { children = ids_of_children p.1; separators = lows_between p.1 })) ∷ []) (cells_under n p.1) (own_cells n ids ps) (flat_map (λ p. cells_under n p.1) ps) i
+    at-append i ((id, Inner (record { children = ids_of_children p.1; separators = separators_of p.1 })) ∷ cells_under n p.1) (cells_under (suc n) (with_ids ids ps))
+    ∙ ap (both (found_at i ((id, Inner (record { children = ids_of_children p.1; separators = separators_of p.1 })) ∷ cells_under n p.1))) (ids_cells n ids ps (omega arith) i)
+    ∙ sym (at-append i ((id, Inner (record { children = ids_of_children p.1; separators = separators_of p.1 })) ∷ cells_under n p.1) (own_cells n ids ps ++ flat_map (λ p. cells_under n p.1) ps))
+    ∙ same_cross ((id, Inner (record { children = ids_of_children p.1; separators = separators_of p.1 })) ∷ []) (cells_under n p.1) (own_cells n ids ps) (flat_map (λ p. cells_under n p.1) ps) i
 
 later_cells : (n : ℕ) (parts : List (List (ℕ × Placed n))) → flat_map (λ (p : ℕ × Body (suc n)). cells_under n p.1) (map (λ p. (first_low (λ child. child.0) p, node_over p)) parts) ≡ cells_under n (flat_map (λ p. p) parts)
 later_cells n [] = refl

@@ -1,19 +1,18 @@
 -- What a map that owns a lawful tree reads as, and that it is whole where it has nothing else.
-use Rattle.std.proofs.Common.{◌≡◌, ◌≢◌, ℕ, zero, suc, ◌<◌, ◌≤◌, Bool, true, false, List, [], ◌∷◌, ◌++◌, length, map, get_or, Option, Some, None, IsSome, refl, sym, ap, subst, ◌∙◌, arith, append_assoc, ◌⊎◌, inl, inr}
+use Rattle.std.proofs.Common.{◌≡◌, ◌≢◌, ℕ, zero, suc, ◌≤◌, true, false, List, [], ◌∷◌, ◌++◌, length, map, Option, Some, None, IsSome, refl, sym, ap, subst, ◌∙◌, arith, append_assoc, ◌⊎◌, inl, inr}
 use Rattle.std.specs.List.{flat_map, AllByRecursion, Contains, IsDistinct}
 use Rattle.std.proofs.lemmas.Bool.Decides.{eqb_tells}
 use Rattle.std.proofs.lemmas.List.{append-nil}
 use mathlib.Core.List.{map-append}
-use Rattle.palm_base.specs.Tree.{Subtree, Tree, levels_of}
+use Rattle.palm_base.specs.Tree.{Subtree, Tree}
 use Rattle.palm_base.specs.Lawful.{next_low, Sound, InOrder, Root, IsLawful}
-use Rattle.palm_node.specs.InnerNode.{InnerNode}
 use Rattle.palm_node.specs.declared.id.NodeId.{NodeId}
 use Rattle.palm_node.specs.declared.node.Node.{Node}
-use Rattle.palm_node.specs.declared.node.Node.TheVariants.{Leaf, Inner}
 use Rattle.palm_arena.specs.declared.shape.Shape.{Shape}
 use Rattle.palm_arena.specs.Reads.{same_place, children_at, leaf_in, inner_in, children_in, child_ids, reads, ReadsAs, ids_under, ids_of, IsWhole}
 use Rattle.palm_arena.specs.Cells.{Cell, Found, Nothing, One, Several, both, found, found_if, found_at, Owns}
-use Rattle.palm_arena.specs.Placed.{Body, Placed, PlacedTree, value_in, value_of, values, cells_of, cells_under, node_of, ids_of_children, lows_between}
+use Rattle.palm_arena.specs.Placed.{Body, Placed, PlacedTree, value_in, value_of, values, cells_of, cells_under, ids_of_children}
+use Rattle.palm_arena.specs.Routes.{separators_of}
 use Rattle.palm_arena.proofs.Keeping.{same_id}
 use Rattle.palm_arena.proofs.Natural.{length-map'}
 use Rattle.palm_arena.proofs.ListParts.{all_front, all_flat}
@@ -31,6 +30,10 @@ owned_after nodes before (cell ∷ cells) owned = (
 pub owned_holds : (nodes : NodeId → Option Node) (cells : List Cell) → Owns nodes cells → Holds nodes cells
 owned_holds nodes cells owned = owned_after nodes [] cells owned
 
+-- And so is each of the first ones.
+pub first_holds : (nodes : NodeId → Option Node) (cells others : List Cell) → Owns nodes (cells ++ others) → Holds nodes cells
+first_holds nodes cells others owned = (all_front (λ cell. nodes cell.0 ≡ Some cell.1) cells others (owned_holds nodes (cells ++ others) owned)).0
+
 -- ---- what it reads as
 
 -- In each inner node there is a child, and the low of the first is written 0.
@@ -38,7 +41,7 @@ abbrev pub FirstsAreZero : (n : ℕ) → Body n → Type 0
 FirstsAreZero zero rows = Unit {0}
 FirstsAreZero (suc n) children = (1 ≤ length children) × (next_low (λ child. child.0) 0 children ≡ 0) × AllByRecursion (λ child. FirstsAreZero n child.1.1) children
 
-zero_lows : {B : Type 0} (children : List (ℕ × (NodeId × B))) → 1 ≤ length children → next_low (λ child. child.0) 0 children ≡ 0 → 0 ∷ lows_between children ≡ map (λ child. child.0) children
+zero_lows : {B : Type 0} (children : List (ℕ × (NodeId × B))) → 1 ≤ length children → next_low (λ child. child.0) 0 children ≡ 0 → 0 ∷ separators_of children ≡ map (λ child. child.0) children
 zero_lows [] some first = absurd (omega arith)
 zero_lows (child ∷ children) some first = ap (λ low. low ∷ map (λ child. child.0) children) (sym first)
 
@@ -172,7 +175,7 @@ live_found nodes cells id owned some none = by (nodes id) some (sym none ∙ own
 -- A lawful tree that a map owns reads as its value.
 pub owned_reads : (nodes : NodeId → Option Node) (tree : PlacedTree) (others : List Cell) (shape : Shape) → IsLawful (value_of tree) → shape.root ≡ tree.1.0 → shape.levels ≡ suc tree.0 → Owns nodes (cells_of tree.0 tree.1 ++ others) → ReadsAs nodes shape (value_of tree)
 owned_reads nodes tree others shape lawful root levels owned =
-    let held = (all_front (λ cell. nodes cell.0 ≡ Some cell.1) (cells_of tree.0 tree.1) others (owned_holds nodes (cells_of tree.0 tree.1 ++ others) owned)).0 in
+    let held = first_holds nodes (cells_of tree.0 tree.1) others owned in
     (levels, ap (reads nodes tree.0) root ∙ held_reads tree.0 nodes tree.1 held (root_zero tree.0 lawful.0 tree.1.1 lawful.1))
 
 -- And where the map has nothing else, it is whole.

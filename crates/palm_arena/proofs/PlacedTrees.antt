@@ -1,19 +1,20 @@
 -- What a map reads as, with the ids of its nodes: the tree is owned where no id is met twice and each live id is met.
-use Rattle.std.proofs.Common.{◌≡◌, ◌≢◌, ℕ, zero, suc, ◌<◌, ◌≤◌, Bool, true, false, cond, eqb, List, [], ◌∷◌, ◌++◌, length, map, drop, get_or, Option, Some, None, IsSome, refl, sym, ap, subst, ◌∙◌, arith, ◌⊎◌, inl, inr}
+use Rattle.std.proofs.Common.{◌≡◌, ◌≢◌, ℕ, zero, suc, true, false, List, [], ◌∷◌, ◌++◌, map, drop, Option, Some, None, IsSome, refl, sym, ap, subst, ◌∙◌, arith, ◌⊎◌, inl, inr}
 use Rattle.std.specs.List.{flat_map, AllByRecursion, Contains, IsDistinct}
 use Rattle.std.proofs.lemmas.Bool.{eq-eqb}
 use Rattle.std.proofs.lemmas.Bool.Decides.{eqb_tells}
-use Rattle.std.proofs.lemmas.List.{append-nil}
 use mathlib.Core.List.{map-append}
-use Rattle.palm_base.specs.Tree.{Subtree, Tree}
+use Rattle.palm_base.specs.Tree.{Subtree}
 use Rattle.palm_base.specs.declared.row.Row.{Row}
+use Rattle.palm_base.proofs.Every.{every_append}
 use Rattle.palm_node.specs.InnerNode.{InnerNode}
 use Rattle.palm_node.specs.declared.id.NodeId.{NodeId}
 use Rattle.palm_node.specs.declared.node.Node.{Node}
 use Rattle.palm_node.specs.declared.node.Node.TheVariants.{Leaf, Inner}
 use Rattle.palm_arena.specs.Reads.{same_place, with_child, children_at, leaf_in, inner_in, children_in, reads, child_ids, ids_under}
-use Rattle.palm_arena.specs.Cells.{Cell, Found, Nothing, One, Several, both, found, found_if, found_at, Owns}
-use Rattle.palm_arena.specs.Placed.{Body, Placed, value_in, values, cells_of, cells_under, node_of, ids_of_children, lows_between}
+use Rattle.palm_arena.specs.Cells.{Cell, Nothing, both, found, found_if, found_at, Owns}
+use Rattle.palm_arena.specs.Placed.{Body, Placed, value_in, values, cells_of, cells_under, node_of, ids_of_children}
+use Rattle.palm_arena.specs.Routes.{separators_of}
 use Rattle.palm_arena.proofs.Keeping.{same_id}
 
 -- ---- the ids of a tree that reads
@@ -25,10 +26,6 @@ Holds nodes cells = AllByRecursion (λ cell. nodes cell.0 ≡ Some cell.1) cells
 -- The ids of cells.
 abbrev pub ids_in : List Cell → List NodeId
 ids_in cells = map (λ cell. cell.0) cells
-
-all_append : {X : Type 0} (P : X → Type 0) (xs ys : List X) → AllByRecursion P xs → AllByRecursion P ys → AllByRecursion P (xs ++ ys)
-all_append P [] ys a b = b
-all_append P (x ∷ xs) ys a b = (a.0, all_append P xs ys a.1 b)
 
 -- A node that reads, with its ids.
 pub record PlacedAt (nodes : NodeId → Option Node) (n : ℕ) (id : NodeId) (value : Subtree n) : Type 0 where
@@ -67,7 +64,7 @@ children_placed nodes n ih (low ∷ lows) (id ∷ ids) children e =
       values-are = ap (λ (v : Subtree n). (low, v) ∷ values n rest.bodies) first.value-is ∙ ap (λ (vs : List (ℕ × Subtree n)). (low, split.0) ∷ vs) rest.values-are ∙ sym split.4;
       lows-are = ap (λ ls. low ∷ ls) rest.lows-are;
       ids-are = ap (λ is. id ∷ is) rest.ids-are;
-      held = all_append (λ cell. nodes cell.0 ≡ Some cell.1) (cells_of n (id, first.body)) (cells_under n rest.bodies) first.held rest.held;
+      held = every_append (λ cell. nodes cell.0 ≡ Some cell.1) (cells_of n (id, first.body)) (cells_under n rest.bodies) first.held rest.held;
       under = map-append (λ (cell : Cell). cell.0) (cells_of n (id, first.body)) (cells_under n rest.bodies) ∙ ap (λ is. is ++ ids_in (cells_under n rest.bodies)) first.ids ∙ ap (λ is. ids_under nodes n id ++ is) rest.under;
     }
 
@@ -83,7 +80,7 @@ read_leaf None rows e = absurd cc
 read_leaf (Some (Leaf own)) rows e = ap (λ (r : List Row). Some (Leaf r)) cc
 read_leaf (Some (Inner inner)) rows e = absurd cc
 
-later_lows : {X : Type 0} (children : List (ℕ × X)) → lows_between children ≡ drop 1 (map (λ child. child.0) children)
+later_lows : {X : Type 0} (children : List (ℕ × X)) → separators_of children ≡ drop 1 (map (λ child. child.0) children)
 later_lows [] = refl
 later_lows (child ∷ children) = refl
 
@@ -94,7 +91,7 @@ placed_at nodes (suc n) id children e =
     let inner = here.0 in
     let below = children_placed nodes n (placed_at nodes n) (0 ∷ inner.separators) inner.children children here.2 in
     let node : node_of (suc n) below.bodies ≡ Inner inner =
-    ap (λ (ids : List NodeId). Inner (record { children = ids; separators = lows_between below.bodies })) below.ids-are
+    ap (λ (ids : List NodeId). Inner (record { children = ids; separators = separators_of below.bodies })) below.ids-are
     ∙ ap (λ (lows : List ℕ). Inner (record { children = inner.children; separators = lows })) (later_lows below.bodies ∙ ap (drop 1) below.lows-are) in
     record {
       body = below.bodies;

@@ -1,5 +1,5 @@
 -- Trees with the ids that their nodes stand at.
-use Rattle.std.specs.Prelude.{ℕ, List, [], ◌∷◌, map, drop}
+use Rattle.std.specs.Prelude.{ℕ, List, [], ◌∷◌, map}
 use Rattle.std.specs.List.{flat_map}
 use Rattle.std.proofs.Common.{zero, suc}
 use Rattle.palm_base.specs.Tree.{Subtree, Tree}
@@ -9,6 +9,7 @@ use Rattle.palm_node.specs.declared.id.Piece.{Piece}
 use Rattle.palm_node.specs.declared.node.Node.{Node}
 use Rattle.palm_node.specs.declared.node.Node.TheVariants.{Leaf, Inner}
 use Rattle.palm_arena.specs.Cells.{Cell}
+use Rattle.palm_arena.specs.Routes.{separators_of}
 
 -- What stands below an id: the rows of a leaf, or the children of an inner node, each with its low and its id.
 -- So below the root over the leaves 1 and 2 there are (0, (1, the rows of 1)) and (20, (2, the rows of 2)).
@@ -41,10 +42,6 @@ value_of tree = (tree.0, value_in tree.0 tree.1.1)
 abbrev pub ids_of_children : {B : Type 0} → List (ℕ × (NodeId × B)) → List NodeId
 ids_of_children children = map (λ child. child.1.0) children
 
--- The separators of children: their lows, but that of the first. So those of (0, a), (20, b) are 20.
-abbrev pub lows_between : {X : Type 0} → List (ℕ × X) → List ℕ
-lows_between children = map (λ child. child.0) (drop 1 children)
-
 -- Children, or pieces, by their lows and ids alone.
 abbrev pub bare : {B : Type 0} → List (ℕ × (NodeId × B)) → List Piece
 bare children = map (λ child. record { low = child.0; id = child.1.0 }) children
@@ -52,13 +49,13 @@ bare children = map (λ child. record { low = child.0; id = child.1.0 }) childre
 -- The node that an arena holds for it.
 abbrev pub node_of : (n : ℕ) → Body n → Node
 node_of zero rows = Leaf rows
-node_of (suc n) children = Inner (record { children = ids_of_children children; separators = lows_between children })
+node_of (suc n) children = Inner (record { children = ids_of_children children; separators = separators_of children })
 
 -- A node with all that is under it, as cells. So those of the root above are its own and those of the leaves 1 and 2.
 abbrev pub cells_of : (n : ℕ) → Placed n → List Cell
 cells_of zero placed = (placed.0, Leaf placed.1) ∷ []
 cells_of (suc n) placed =
-    (placed.0, Inner (record { children = ids_of_children placed.1; separators = lows_between placed.1 })) ∷ flat_map (λ child. cells_of n child.1) placed.1
+    (placed.0, Inner (record { children = ids_of_children placed.1; separators = separators_of placed.1 })) ∷ flat_map (λ child. cells_of n child.1) placed.1
 
 -- Children, or pieces, with all that is under them.
 abbrev pub cells_under : (n : ℕ) → List (ℕ × Placed n) → List Cell

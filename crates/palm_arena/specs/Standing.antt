@@ -1,6 +1,6 @@
 -- What holds between the levels of a pass: each node of a level has become what the serial rule makes of it, and all else
 -- is as it was.
-use Rattle.std.specs.Prelude.{◌≡◌, ℕ, Bool, false, List, [], ◌∷◌, ◌++◌, map, filter, Option}
+use Rattle.std.specs.Prelude.{◌≡◌, ℕ, Bool, true, false, List, [], ◌∷◌, ◌++◌, map, filter, Option}
 use Rattle.std.specs.List.{flat_map, AllByRecursion, list_any}
 use Rattle.std.specs.List.Sorted.{IsPermutation}
 use Rattle.std.proofs.Common.{zero, suc}
@@ -33,9 +33,12 @@ is_hit touched l result = is_touched touched l result.site.place
 abbrev pub StandsForItself : (NodeId → Bool) → (l : ℕ) → Result l → Type 0
 StandsForItself touched l result = is_hit touched l result ≡ false → result.pieces ≡ (result.site.low, result.site.place) ∷ []
 
--- The pieces are those that the serial rule gives.
-abbrev pub IsRight : (l d : ℕ) → Result l → Type 0
-IsRight l d result = values l result.pieces ≡ (outcome_at l d result.site).pieces
+-- The pieces are those that the serial rule gives. Of a root leaf it is asked only where it is touched: the rule makes no
+-- piece of no rows, but an empty root leaf that is left alone stands for itself.
+abbrev pub IsRight : (NodeId → Bool) → (l d : ℕ) → Result l → Type 0
+IsRight touched zero zero result = is_hit touched zero result ≡ true → values zero result.pieces ≡ (outcome_at zero zero result.site).pieces
+IsRight touched zero (suc d) result = values zero result.pieces ≡ (outcome_at zero (suc d) result.site).pieces
+IsRight touched (suc l) d result = values (suc l) result.pieces ≡ (outcome_at (suc l) d result.site).pieces
 
 -- The rows that the serial rule leaves loose of a node.
 abbrev pub loose_of : (l d : ℕ) → Result l → List Row
@@ -71,7 +74,7 @@ pub record Stands (d l : ℕ) (root : Site (raised l d)) (touched : NodeId → B
   pub kept : List Kept
   pub sites : map (λ result. result.site) results ≡ sites_at d l root
   pub still : AllByRecursion (StandsForItself touched l) results
-  pub right : AllByRecursion (IsRight l d) results
+  pub right : AllByRecursion (IsRight touched l d) results
   pub changed : changes.nodes ≡ map (change_of l) (filter (is_hit touched l) results)
   pub removed : changes.removed ≡ map removed_of kept
   pub loose : IsPermutation (changes.loose ++ flat_map kept_rows kept) (flat_map (loose_of l d) results)

@@ -12,7 +12,8 @@ use Rattle.palm_node.specs.InnerNode.{InnerNode, inner_over}
 use Rattle.palm_node.specs.declared.id.NodeId.{NodeId}
 use Rattle.palm_node.specs.declared.id.Piece.{Piece}
 use Rattle.palm_node.specs.declared.change.Change.{Change}
-use Rattle.palm_arena.specs.Placed.{Placed, ids_of_children, lows_between, bare}
+use Rattle.palm_arena.specs.Placed.{Placed, ids_of_children, bare}
+use Rattle.palm_arena.specs.Routes.{separators_of}
 use Rattle.palm_arena.specs.Sites.{Site, sites_of_children}
 use Rattle.palm_arena.specs.Standing.{Result, is_hit, StandsForItself, change_of}
 use Rattle.palm_arena.proofs.Natural.{length-map', cut-map, inside, small-map}
@@ -59,7 +60,7 @@ lows_children : {B : Type 0} (children : List (ℕ × (NodeId × B))) → pieces
 lows_children [] = refl
 lows_children (k ∷ ks) = ap (λ ps. record { low = k.0; id = k.1.0 } ∷ ps) (lows_children ks)
 
-pub stored_children : {B : Type 0} (children : List (ℕ × (NodeId × B))) → next_low (λ k. k.0) 0 children ≡ 0 → pieces_at (0 ∷ lows_between children) (ids_of_children children) ≡ bare children
+pub stored_children : {B : Type 0} (children : List (ℕ × (NodeId × B))) → next_low (λ k. k.0) 0 children ≡ 0 → pieces_at (0 ∷ separators_of children) (ids_of_children children) ≡ bare children
 stored_children [] e = refl
 stored_children (k ∷ ks) e =
     ap (λ n. record { low = n; id = k.1.0 } ∷ pieces_at (map (λ k. k.0) ks) (ids_of_children ks)) (sym e) ∙ ap (λ ps. record { low = k.0; id = k.1.0 } ∷ ps) (lows_children ks)
@@ -152,7 +153,7 @@ family_steps l f e = subst (StepsFrom f.parent.path f.parent.place.0 0) (sym e) 
 
 -- The node that an arena holds for children.
 abbrev pub inner_of : {B : Type 0} → List (ℕ × (NodeId × B)) → InnerNode
-inner_of children = record { children = ids_of_children children; separators = lows_between children }
+inner_of children = record { children = ids_of_children children; separators = separators_of children }
 
 -- So what is left by ids, of a family, is the pieces under its parent.
 pub family_left : (W : NodeId → Bool) (l : ℕ) (f : Family l) → IsFamily l f → next_low (λ child. child.0) 0 f.parent.place.1 ≡ 0 → AllByRecursion (StandsForItself W l) f.children

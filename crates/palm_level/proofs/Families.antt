@@ -1,5 +1,5 @@
 -- From the changes of a level to those of the next: each node's results and what the map holds.
-use Rattle.std.proofs.Common.{◌≡◌, ℕ, suc, Bool, true, false, cond, ◌&&◌, ◌||◌, List, [], ◌∷◌, ◌++◌, length, map, refl, sym, ap, ◌∙◌, append_assoc, arith, subst, Option}
+use Rattle.std.proofs.Common.{◌≡◌, ℕ, zero, suc, Bool, true, false, cond, ◌&&◌, ◌||◌, List, [], ◌∷◌, ◌++◌, length, map, refl, sym, ap, ◌∙◌, append_assoc, arith, subst, Option}
 use Rattle.std.specs.List.{flat_map, AllByRecursion, filter, list_any}
 use Rattle.std.specs.List.Sorted.{IsPermutation}
 use Rattle.std.proofs.lemmas.List.{append-nil}
@@ -16,7 +16,8 @@ use Rattle.palm_node.specs.declared.node.Node.{Node}
 use Rattle.palm_node.specs.declared.node.Node.TheVariants.{Inner}
 use Rattle.palm_node.specs.declared.change.Changes.{Changes}
 use Rattle.palm_arena.specs.Cells.{Cell, found_at, Owns, SameCells}
-use Rattle.palm_arena.specs.Placed.{Body, Placed, value_in, values, cells_of, cells_under, ids_of_children, lows_between, with_ids, own_cells}
+use Rattle.palm_arena.specs.Placed.{Body, Placed, value_in, values, cells_of, cells_under, ids_of_children, with_ids, own_cells}
+use Rattle.palm_arena.specs.Routes.{separators_of}
 use Rattle.palm_arena.specs.Sites.{Site, raised, sites_at, cell_of_site, cells_above}
 use Rattle.palm_arena.specs.Standing.{is_touched, Result, is_hit, StandsForItself, IsRight, loose_of, change_of, Kept, kept_cells, kept_rows, removed_of, Stands}
 use Rattle.palm_arena.proofs.SitePasses.{site_pass, outcome_below}
@@ -107,7 +108,7 @@ parts_before W l f = by (is_worked W l f)
     by true i = refl
     by false i = refl
 
-over_seps : {T : Type 0} (children : List (ℕ × T)) → lows_between (node_over children) ≡ lows_between children
+over_seps : {T : Type 0} (children : List (ℕ × T)) → separators_of (node_over children) ≡ separators_of children
 over_seps [] = refl
 over_seps (child ∷ children) = refl
 
@@ -133,14 +134,14 @@ parts_after W l f k = by (is_worked W l f) (is_small LEAST_CHILDREN (placed_left
     left s = let ps = nodes_over f.parent.low children in cond s [] ps
 
     gone : Bool → List Cell
-    gone s = let h = (f.parent.place.0, Inner (record { children = ids_of_children children; separators = lows_between children })) ∷ [] in cond s h []
+    gone s = let h = (f.parent.place.0, Inner (record { children = ids_of_children children; separators = separators_of children })) ∷ [] in cond s h []
 
     by : (b s : Bool) → is_worked W l f ≡ b → is_small LEAST_CHILDREN children ≡ s
-        → SameCells (cond b (own_cells l f.ids (cond s [] (nodes_over f.parent.low children)) ++ cond s ((f.parent.place.0, Inner (record { children = ids_of_children children; separators = lows_between children })) ∷ []) []) [] ++ cond b (cells_under l children) (cell_of_site (suc l) f.parent ∷ cells_under l children))
+        → SameCells (cond b (own_cells l f.ids (cond s [] (nodes_over f.parent.low children)) ++ cond s ((f.parent.place.0, Inner (record { children = ids_of_children children; separators = separators_of children })) ∷ []) []) [] ++ cond b (cells_under l children) (cell_of_site (suc l) f.parent ∷ cells_under l children))
         (cells_under (suc l) (cond b (with_ids f.ids (cond s [] (nodes_over f.parent.low children))) ((f.parent.low, f.parent.place) ∷ [])) ++ flat_map kept_cells (cond (b && s) held []))
     by true true e q i =
-        ap (λ hs. found_at i ((hs ++ (f.parent.place.0, Inner (record { children = ids_of_children children; separators = lows_between children })) ∷ []) ++ cells_under l children)) (none_heads l f.ids)
-        ∙ ap (found_at i) (ap (λ cs. (f.parent.place.0, Inner (record { children = ids_of_children children; separators = lows_between children })) ∷ cs) (sym (over_cells l children)) ∙ ap (λ is. (f.parent.place.0, Inner (record { children = is; separators = lows_between children })) ∷ cells_under l (node_over children)) (sym (over_ids children)) ∙ ap (λ ss. (f.parent.place.0, Inner (record { children = ids_of_children (node_over children); separators = ss })) ∷ cells_under l (node_over children)) (sym (over_seps children)) ∙ sym (append-nil ((f.parent.place.0, Inner (record { children = ids_of_children (node_over children); separators = lows_between (node_over children) })) ∷ cells_under l (node_over children))))
+        ap (λ hs. found_at i ((hs ++ (f.parent.place.0, Inner (record { children = ids_of_children children; separators = separators_of children })) ∷ []) ++ cells_under l children)) (none_heads l f.ids)
+        ∙ ap (found_at i) (ap (λ cs. (f.parent.place.0, Inner (record { children = ids_of_children children; separators = separators_of children })) ∷ cs) (sym (over_cells l children)) ∙ ap (λ is. (f.parent.place.0, Inner (record { children = is; separators = separators_of children })) ∷ cells_under l (node_over children)) (sym (over_ids children)) ∙ ap (λ ss. (f.parent.place.0, Inner (record { children = ids_of_children (node_over children); separators = ss })) ∷ cells_under l (node_over children)) (sym (over_seps children)) ∙ sym (append-nil ((f.parent.place.0, Inner (record { children = ids_of_children (node_over children); separators = separators_of (node_over children) })) ∷ cells_under l (node_over children))))
         ∙ ap (λ ps. found_at i (cells_under (suc l) ps ++ flat_map kept_cells held)) (sym (none_ids {B = Body (suc l)} f.ids))
       where
         none_heads : (l : ℕ) (ids : List NodeId) → own_cells l ids [] ≡ []
@@ -158,8 +159,10 @@ parts_after W l f k = by (is_worked W l f) (is_small LEAST_CHILDREN (placed_left
         let own = untouched_kids W l f k.still k.family e in
         ap (λ ks. found_at i (cell_of_site (suc l) f.parent ∷ cells_under l ks)) own ∙ ap (found_at i) (sym (append-nil (cells_of (suc l) f.parent.place)) ∙ sym (append-nil (cells_of (suc l) f.parent.place ++ [])))
 
-pub passed_all : (l d : ℕ) (rs : List (Result l)) → AllByRecursion (IsRight l (suc d)) rs → AllByRecursion (IsPassed l) rs
-passed_all l d rs all = all_each (IsRight l (suc d)) (IsPassed l) (λ r right. right ∙ ap (λ (o : Outcome l). o.pieces) (outcome_below l d r.site)) rs all
+-- Below a root the pieces are those of the pass, touched or not.
+pub passed_all : (touched : NodeId → Bool) (l d : ℕ) (rs : List (Result l)) → AllByRecursion (IsRight touched l (suc d)) rs → AllByRecursion (IsPassed l) rs
+passed_all touched zero d rs all = all
+passed_all touched (suc l) d rs all = all
 
 loose_passed : (l d : ℕ) (rs : List (Result l)) → flat_map (loose_of l (suc d)) rs ≡ flat_map (λ r. (site_pass l r.site).loose) rs
 loose_passed l d [] = refl
@@ -168,7 +171,7 @@ loose_passed l d (r ∷ rs) = ap (λ (o : Outcome l). o.loose ++ flat_map (loose
 known_all : (d l : ℕ) (root : Site (raised l (suc d))) (W : NodeId → Bool) (rest : List Cell) (m m' : NodeId → Option Node) (seen : Changes) (st : Stands (suc d) l root W rest m seen) (fs : List (Family l)) → Worked d l root W st.results m m' fs → AllByRecursion (Known W l) fs
 known_all d l root W rest m m' seen st fs w =
     let still = all_flat (StandsForItself W l) (λ f. f.children) fs (subst (AllByRecursion (StandsForItself W l)) (sym w.children) st.still) in
-    let right = all_flat (IsPassed l) (λ f. f.children) fs (subst (AllByRecursion (IsPassed l)) (sym w.children) (passed_all l d st.results st.right)) in
+    let right = all_flat (IsPassed l) (λ f. f.children) fs (subst (AllByRecursion (IsPassed l)) (sym w.children) (passed_all W l d st.results st.right)) in
     go fs w.own w.ids w.full still right
   where
     go : (fs : List (Family l)) → AllByRecursion (IsFamily l) fs → AllByRecursion (HasIds W l) fs → AllByRecursion (λ f. IsFull l f.parent) fs → AllByRecursion (λ f. AllByRecursion (StandsForItself W l) f.children) fs → AllByRecursion (λ f. AllByRecursion (IsPassed l) f.children) fs → AllByRecursion (Known W l) fs

@@ -13,7 +13,8 @@ use Rattle.palm_node.specs.declared.change.Change.{Change}
 use Rattle.palm_node.specs.declared.change.Changes.{Changes}
 use Rattle.palm_arena.specs.Reads.{inner_in}
 use Rattle.palm_arena.specs.Cells.{Cell, found_at, Owns}
-use Rattle.palm_arena.specs.Placed.{Placed, value_in, values, cells_under, node_of, ids_of_children, lows_between}
+use Rattle.palm_arena.specs.Placed.{Placed, value_in, values, cells_under, node_of, ids_of_children}
+use Rattle.palm_arena.specs.Routes.{separators_of}
 use Rattle.palm_arena.specs.Sites.{Site, sites_of_children, sites_below, raised, sites_at, cell_of_site, cells_above}
 use Rattle.palm_arena.specs.Standing.{Result, is_hit, StandsForItself, change_of, kept_cells, Stands}
 use Rattle.palm_arena.proofs.Natural.{length-map'}
@@ -73,11 +74,11 @@ above_below : (nodes : NodeId → Option Node) (l : ℕ) (s : Site (suc l)) → 
 above_below nodes l s first held =
     above_children nodes l s.path s.place.0 0 (inner_of s.place.1) s.place.1 s.edits held (many s.place.1 first.0) (lows s.place.1 first.0 first.1)
   where
-    many : (cs : List (ℕ × Placed l)) → 1 ≤ length cs → length (0 ∷ lows_between cs) ≡ length (ids_of_children cs)
+    many : (cs : List (ℕ × Placed l)) → 1 ≤ length cs → length (0 ∷ separators_of cs) ≡ length (ids_of_children cs)
     many [] some = absurd (omega (arith, some))
     many (c ∷ cs) some = ap suc (length-map' (λ (c : ℕ × Placed l). c.0) cs ∙ sym (length-map' (λ (c : ℕ × Placed l). c.1.0) cs))
 
-    lows : (cs : List (ℕ × Placed l)) → 1 ≤ length cs → next_low (λ child. child.0) 0 cs ≡ 0 → 0 ∷ lows_between cs ≡ map (λ c. c.0) cs
+    lows : (cs : List (ℕ × Placed l)) → 1 ≤ length cs → next_low (λ child. child.0) 0 cs ≡ 0 → 0 ∷ separators_of cs ≡ map (λ c. c.0) cs
     lows [] some nil = absurd (omega (arith, some))
     lows (c ∷ cs) some nil = ap (λ n. n ∷ map (λ (c : ℕ × Placed l). c.0) cs) (sym nil)
 
@@ -142,7 +143,7 @@ setting d l high root W rest nodes changes st r s =
     let above = flat_all (λ (t : Site (suc l)). HasAbove nodes t.path t.low) (sites_below (suc l)) grands (aboves grands (first_zeros d (suc l) high root r) (owned_each nodes (suc l) grands (more ++ cells_above d (suc (suc l)) root) grand_cells)) in
     let held = owned_each nodes l parents (under ++ cells_above (suc d) (suc l) root) own_cells in
     let still = all_flat (StandsForItself W l) (λ f. f.children) s.families (subst (AllByRecursion (StandsForItself W l)) (sym s.children) st.still) in
-    let passed = all_flat (IsPassed l) (λ f. f.children) s.families (subst (AllByRecursion (IsPassed l)) (sym s.children) (passed_all l (suc d) st.results st.right)) in
+    let passed = all_flat (IsPassed l) (λ f. f.children) s.families (subst (AllByRecursion (IsPassed l)) (sym s.children) (passed_all W l (suc d) st.results st.right)) in
     record {
       known = go s.families s.own
           (map_all (SoundSite (suc l)) (λ f. f.parent) s.families (subst (AllByRecursion (SoundSite (suc l))) (sym s.parents) sound)) still passed

@@ -1,7 +1,7 @@
 pub mod Bare
 pub mod Bounds
 mod Ending
-mod Families
+pub mod Families
 mod Finishing
 mod LaterParts
 mod Lending

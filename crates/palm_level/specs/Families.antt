@@ -10,7 +10,8 @@ use Rattle.palm_node.specs.declared.id.NodeId.{NodeId}
 use Rattle.palm_node.specs.declared.node.Node.{Node}
 use Rattle.palm_node.specs.declared.node.Node.TheVariants.{Inner}
 use Rattle.palm_arena.specs.Cells.{Cell, Turns}
-use Rattle.palm_arena.specs.Placed.{Body, Placed, values, ids_of_children, lows_between, with_ids, own_cells}
+use Rattle.palm_arena.specs.Placed.{Body, Placed, values, ids_of_children, with_ids, own_cells}
+use Rattle.palm_arena.specs.Routes.{separators_of}
 use Rattle.palm_arena.specs.Sites.{Site, raised, sites_at, sites_below, cell_of_site}
 use Rattle.palm_arena.specs.Standing.{Result, Kept, is_touched}
 use Rattle.palm_arena.proofs.SitePasses.{site_pass}
@@ -68,7 +69,7 @@ nodes_before touched l family = let own = cell_of_site (suc l) family.parent ∷
 
 abbrev pub removed_node : (l : ℕ) → Family l → List Cell
 removed_node l family =
-    let own = (family.parent.place.0, Inner (record { children = ids_of_children (placed_left l family); separators = lows_between (placed_left l family) })) ∷ [] in
+    let own = (family.parent.place.0, Inner (record { children = ids_of_children (placed_left l family); separators = separators_of (placed_left l family) })) ∷ [] in
     if is_small LEAST_CHILDREN (placed_left l family) then own else []
 
 abbrev pub nodes_after : (NodeId → Bool) → (l : ℕ) → Family l → List Cell

@@ -21,7 +21,8 @@ use Rattle.palm_node.specs.declared.node.Node.TheVariants.{Inner}
 use Rattle.palm_node.proofs.TopLevels.{IsOrderly, half_as_many, nodes_orderly, top_alone, top_next, lows_rise, more_levels, few_levels}
 use Rattle.palm_arena.specs.declared.shape.Shape.{Shape}
 use Rattle.palm_arena.specs.Cells.{Cell, Owns}
-use Rattle.palm_arena.specs.Placed.{Body, Placed, value_in, values, cells_of, cells_under, bare, ids_of_children, lows_between, with_ids, own_cells}
+use Rattle.palm_arena.specs.Placed.{Body, Placed, value_in, values, cells_of, cells_under, bare, ids_of_children, with_ids, own_cells}
+use Rattle.palm_arena.specs.Routes.{separators_of}
 use Rattle.palm_arena.specs.Passes.{StandsAlone}
 use Rattle.palm_arena.proofs.CellLists.{owned_same, same_append}
 use Rattle.palm_arena.proofs.Natural.{inside, drop-map, length-map'}
@@ -51,7 +52,7 @@ unfolding id_of
 seconds [] = refl
 seconds (c ∷ cs) = ap (λ l. c.1.0 ∷ l) (seconds cs)
 
-firsts : {B : Type 0} (children : List (ℕ × (NodeId × B))) → lows_between (map (inside id_of) children) ≡ lows_between children
+firsts : {B : Type 0} (children : List (ℕ × (NodeId × B))) → separators_of (map (inside id_of) children) ≡ separators_of children
 firsts children = ap (map (λ (child : ℕ × NodeId). child.0)) (drop-map (inside id_of) 1 children) ∙ lows (drop 1 children)
   where
     lows : {B : Type 0} (children : List (ℕ × (NodeId × B))) → map (λ (child : ℕ × NodeId). child.0) (map (inside id_of) children) ≡ map (λ child. child.0) children
@@ -62,8 +63,8 @@ cells_bare : (n : ℕ) (ids : List NodeId) (nodes : List (ℕ × Body (suc n))) 
 cells_bare n [] nodes = refl
 cells_bare n (id ∷ ids) [] = refl
 cells_bare n (id ∷ ids) (p ∷ ps) =
-    ap (λ (l : List Cell). (id, Inner (record { children = map (λ (child : ℕ × NodeId). child.1) (map (inside id_of) p.1); separators = lows_between (map (inside id_of) p.1) })) ∷ l) (cells_bare n ids ps)
-    ∙ ap (λ (c : List NodeId). (id, Inner (record { children = c; separators = lows_between (map (inside id_of) p.1) })) ∷ own_cells n ids ps) (seconds p.1)
+    ap (λ (l : List Cell). (id, Inner (record { children = map (λ (child : ℕ × NodeId). child.1) (map (inside id_of) p.1); separators = separators_of (map (inside id_of) p.1) })) ∷ l) (cells_bare n ids ps)
+    ∙ ap (λ (c : List NodeId). (id, Inner (record { children = c; separators = separators_of (map (inside id_of) p.1) })) ∷ own_cells n ids ps) (seconds p.1)
     ∙ ap (λ (s : List ℕ). (id, Inner (record { children = ids_of_children p.1; separators = s })) ∷ own_cells n ids ps) (firsts p.1)
 
 -- ---- the level above

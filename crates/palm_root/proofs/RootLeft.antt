@@ -1,5 +1,5 @@
 -- What is left below the root is what the serial rule makes of it.
-use Rattle.std.proofs.Common.{◌≡◌, ℕ, zero, suc, ◌+◌, ◌≤◌, true, List, [], ◌∷◌, ◌++◌, length, map, get_or, Option, Some, refl, sym, ap, subst, arith, ◌∙◌, ◌⊎◌, inl, inr, eqb-true, ◌==◌}
+use Rattle.std.proofs.Common.{◌≡◌, ℕ, zero, suc, ◌+◌, ◌≤◌, Bool, true, false, List, [], ◌∷◌, ◌++◌, length, map, get_or, Option, Some, refl, sym, ap, subst, arith, ◌∙◌, ◌⊎◌, inl, inr, eqb-true, ◌==◌}
 use Rattle.std.specs.List.{flat_map, AllByRecursion}
 use Rattle.std.specs.List.Sorted.{IsPermutation}
 use Rattle.std.proofs.lemmas.List.{append-nil}
@@ -13,7 +13,7 @@ use Rattle.palm_base.proofs.Batches.{highest, adds_below, root_wider}
 use Rattle.palm_base.proofs.Passes.{pass_holds, below_holds}
 use Rattle.palm_base.proofs.RisingTables.{rising_is_table}
 use Rattle.palm_base.proofs.Tables.{calls_keep_tables}
-use Rattle.palm_base.proofs.Builds.{top_few}
+use Rattle.palm_base.proofs.Builds.{leaf_top, top_few}
 use Rattle.palm_base.proofs.SoundNodes.{node_over_same}
 use Rattle.palm_base.specs.declared.bounds.TheConstants.{MOST_CHILDREN}
 use Rattle.palm_node.specs.InnerNode.{inner_over}
@@ -27,14 +27,15 @@ use Rattle.palm_arena.specs.declared.shape.Shape.{Shape}
 use Rattle.palm_arena.specs.Cells.{Cell, Owns, Turns}
 use Rattle.palm_arena.specs.Placed.{Placed, PlacedTree, value_in, value_of, values, bare, cells_of, cells_under}
 use Rattle.palm_arena.specs.Sites.{Site, raised, sites_below}
-use Rattle.palm_arena.specs.Standing.{Result, IsRight, loose_of, Kept, kept_cells, kept_rows, Stands}
-use Rattle.palm_arena.specs.Passes.{Pass, IsPass, is_among, IsRepaired, StandsAlone}
+use Rattle.palm_arena.specs.Standing.{Result, is_hit, StandsForItself, IsRight, loose_of, Kept, kept_cells, kept_rows, Stands}
+use Rattle.palm_arena.specs.Passes.{Pass, is_among, leaf_sites, IsTouchedOrStill, IsPass, IsRepaired, StandsAlone}
 use Rattle.palm_arena.proofs.OwnedTrees.{values_length, first_value}
 use Rattle.palm_root.specs.Raising.{IsLevel}
 use Rattle.palm_root.proofs.Raised.{bare_length}
 use Rattle.palm_arena.proofs.SitePasses.{site_pass, outcome_below}
 use Rattle.palm_arena.proofs.CellLists.{owned_front}
-use Rattle.palm_level.specs.Families.{IsPassed, pieces_under}
+use Rattle.palm_level.specs.Families.{pieces_under}
+use Rattle.palm_level.proofs.Families.{passed_all}
 use Rattle.palm_level.proofs.Parent.{outcome_of_results, below_results, joined_values}
 use Rattle.palm_level.proofs.Bare.{inner_of, inner_bare}
 use Rattle.palm_root.specs.Roots.{level_below, StandsBelow, HasLeft}
@@ -82,10 +83,6 @@ at_root p nodes shape changes s = by s.stands.d s.stands.l s.stands.root s.stand
 
 -- ---- an inner root
 
-pub results_passed : (l d : ℕ) (results : List (Result l)) → AllByRecursion (IsRight l (suc d)) results → AllByRecursion (IsPassed l) results
-results_passed l d [] right = tt
-results_passed l d (r ∷ rs) right = (right.0 ∙ ap (λ (o : Outcome l). o.pieces) (outcome_below l d r.site), results_passed l d rs right.1)
-
 results_loose : (l d : ℕ) (results : List (Result l)) → flat_map (loose_of l (suc d)) results ≡ (outcome_of_results l results).loose
 results_loose l d [] = refl
 results_loose l d (r ∷ rs) = ap (λ (o : Outcome l). o.loose ++ flat_map (loose_of l (suc d)) rs) (outcome_below l d r.site) ∙ ap (λ ls. (site_pass l r.site).loose ++ ls) (results_loose l d rs)
@@ -100,7 +97,7 @@ inner_left p nodes changes at is =
     let n = at.n in
     let root = at.root in
     let results = at.stands.results in
-    let passed = results_passed n 0 results at.stands.right in
+    let passed = passed_all (is_among p.routed) n 0 results at.stands.right in
     let outcome : base_pass (suc n) (values n root.place.1) root.edits ≡ outcome_of_results n results = inner_outcome n root results at.stands.sites in
     let pieces : values n (pieces_under n results) ≡ (base_pass (suc n) (values n root.place.1) root.edits).pieces = joined_values n results passed ∙ ap (λ (o : Outcome n). o.pieces) (sym outcome) in
     let tree = ap (λ (es : List Call). passed_tree (suc n, values n root.place.1) es) at.edits-are ∙ ap (λ (t : PlacedTree). passed_tree (value_of t) p.edits) at.tree-is in
@@ -143,30 +140,62 @@ edits_keep_tables : (rows : List Row) (edits : List Call) → IsTable rows → I
 edits_keep_tables rows [] table = table
 edits_keep_tables rows (edit ∷ edits) table = edits_keep_tables (after rows edit) edits (calls_keep_tables rows edit table)
 
+leaf_lawful : (p : Pass) (nodes : NodeId → Option Node) (changes : Changes) (at : LeafRoot p nodes changes) → IsPass p → (high : ℕ) × Root zero high at.root.place.1
+leaf_lawful p nodes changes at is = subst (λ (t : PlacedTree). (high : ℕ) × Root t.0 high (value_in t.0 t.1.1)) (sym at.tree-is) is.lawful
+
+-- The edits leave a root leaf to which nothing is routed as it is.
+leaf_still : (p : Pass) (nodes : NodeId → Option Node) (changes : Changes) (at : LeafRoot p nodes changes) → IsPass p → is_among p.routed at.root.place.0 ≡ false → after_all at.root.place.1 p.edits ≡ at.root.place.1
+leaf_still p nodes changes at is =
+    (subst (λ (t : PlacedTree). AllByRecursion (IsTouchedOrStill p.routed) (leaf_sites t.0 (record { path = []; low = 0; place = t.1; edits = p.edits }))) (sym at.tree-is) is.still).0
+
+-- These leaves make the tree of the serial rule over a root leaf.
+abbrev LeavesMake : List Row → List Call → List (ℕ × List Row) → Type 0
+LeavesMake rows edits leaves = (top zero leaves ≡ passed_tree (zero, rows) edits) × IsOrderly zero leaves
+
+-- The pieces of a root leaf do: those of the rule where it is touched, and else the leaf itself.
+pieces_make : (p : Pass) (nodes : NodeId → Option Node) (changes : Changes) (at : LeafRoot p nodes changes) → IsPass p → (result : Result zero) → result.site ≡ at.root → IsRight (is_among p.routed) zero zero result
+    → StandsForItself (is_among p.routed) zero result → LeavesMake at.root.place.1 p.edits (values zero result.pieces)
+pieces_make p nodes changes at is result own right still = by (is_hit touched zero result) refl
+  where
+    touched : NodeId → Bool
+    touched = is_among p.routed
+
+    rows : List Row
+    rows = at.root.place.1
+
+    lawful : (high : ℕ) × Root zero high rows
+    lawful = leaf_lawful p nodes changes at is
+
+    by : (b : Bool) → is_hit touched zero result ≡ b → LeavesMake rows p.edits (values zero result.pieces)
+    by true hit =
+        let pieces : values zero result.pieces ≡ leaves_of 0 (after_all rows p.edits) =
+        right hit ∙ ap (λ (s : Site zero). leaves_of 0 (after_all s.place.1 s.edits)) own ∙ ap (λ es. leaves_of 0 (after_all rows es)) at.edits-are in
+        (ap (top zero) pieces, subst (IsOrderly zero) (sym pieces) (leaves_orderly (after_all rows p.edits) (edits_keep_tables rows p.edits (rising_is_table 0 lawful.0 rows lawful.1.1))))
+    by false hit =
+        let same : after_all rows p.edits ≡ rows = leaf_still p nodes changes at is (ap (λ (s : Site zero). touched s.place.0) (sym own) ∙ hit) in
+        let pieces : values zero result.pieces ≡ (result.site.low, rows) ∷ [] = ap (values zero) (still hit) ∙ ap (λ (s : Site zero). (result.site.low, s.place.1) ∷ []) own in
+        (ap (top zero) pieces ∙ top_alone zero (result.site.low, rows) ∙ sym (leaf_top rows lawful.1.0) ∙ ap (λ rs. top zero (leaves_of 0 rs)) (sym same), subst (IsOrderly zero) (sym pieces) (inl (omega arith)))
+
 -- What is left of a root leaf: the pieces of the one change, or the leaf itself where nothing was routed to it.
 pub leaf_left : (p : Pass) (nodes : NodeId → Option Node) (changes : Changes) (at : LeafRoot p nodes changes) → IsPass p
     → (result : Result zero) × (at.stands.results ≡ result ∷ []) × (result.site ≡ at.root) × HasLeft p [] nodes changes 0 (bare result.pieces)
-leaf_left p nodes changes at is = by at.stands.results at.stands.sites at.stands.right at.stands.loose at.stands.owned
+leaf_left p nodes changes at is = by at.stands.results at.stands.sites at.stands.right at.stands.still at.stands.loose at.stands.owned
   where
-    lawful : (high : ℕ) × Root zero high at.root.place.1
-    lawful = subst (λ (t : PlacedTree). (high : ℕ) × Root t.0 high (value_in t.0 t.1.1)) (sym at.tree-is) is.lawful
-
-    table : (edits : List Call) → IsTable (after_all at.root.place.1 edits)
-    table edits = edits_keep_tables at.root.place.1 edits (rising_is_table 0 lawful.0 at.root.place.1 lawful.1.1)
+    touched : NodeId → Bool
+    touched = is_among p.routed
 
     kept : List Kept
     kept = at.stands.kept
 
-    by : (results : List (Result zero)) → map (λ r. r.site) results ≡ at.root ∷ [] → AllByRecursion (IsRight zero 0) results → IsPermutation (changes.loose ++ flat_map kept_rows kept) (flat_map (loose_of zero 0) results)
+    by : (results : List (Result zero)) → map (λ r. r.site) results ≡ at.root ∷ [] → AllByRecursion (IsRight touched zero 0) results → AllByRecursion (StandsForItself touched zero) results
+        → IsPermutation (changes.loose ++ flat_map kept_rows kept) (flat_map (loose_of zero 0) results)
         → Owns nodes (cells_under zero (flat_map (λ r. r.pieces) results) ++ (flat_map kept_cells kept ++ p.rest))
         → (result : Result zero) × (results ≡ result ∷ []) × (result.site ≡ at.root) × HasLeft p [] nodes changes 0 (bare result.pieces)
-    by [] sites right loose owned = absurd cc
-    by (r ∷ s ∷ rs) sites right loose owned = absurd (let n = ap length sites in omega (arith, n))
-    by (r ∷ []) sites right loose owned =
+    by [] sites right still loose owned = absurd cc
+    by (r ∷ s ∷ rs) sites right still loose owned = absurd (let n = ap length sites in omega (arith, n))
+    by (r ∷ []) sites right still loose owned =
         let own : r.site ≡ at.root = ap (λ (l : List (Site zero)). get_or l 0 at.root) sites in
-        let pieces : values zero r.pieces ≡ leaves_of 0 (after_all at.root.place.1 p.edits) =
-        right.0 ∙ ap (λ (s : Site zero). leaves_of 0 (after_all s.place.1 s.edits)) own ∙ ap (λ es. leaves_of 0 (after_all at.root.place.1 es)) at.edits-are in
-        let tree = ap (λ (t : PlacedTree). passed_tree (value_of t) p.edits) at.tree-is in (
+        let make = pieces_make p nodes changes at is r own right.0 still.0 in (
           r,
           refl,
           own,
@@ -176,8 +205,8 @@ leaf_left p nodes changes at is = by at.stands.results at.stands.sites at.stands
             below-is = refl;
             children = r.pieces;
             pieces = refl;
-            same = ap (top zero) pieces ∙ tree;
-            orderly = subst (IsOrderly zero) (sym pieces) (leaves_orderly (after_all at.root.place.1 p.edits) (table p.edits));
+            same = make.0 ∙ ap (λ (t : PlacedTree). passed_tree (value_of t) p.edits) at.tree-is;
+            orderly = make.1;
             kept = kept;
             removed = at.stands.removed;
             loose = subst (λ (t : PlacedTree). IsPermutation (changes.loose ++ flat_map kept_rows kept) (base_pass t.0 (value_in t.0 t.1.1) p.edits).loose) at.tree-is loose;

@@ -28,6 +28,7 @@ use Rattle.palm_arena.proofs.SitePasses.{site_pass}
 use Rattle.palm_arena.proofs.Natural.{length-map'}
 use Rattle.palm_arena.proofs.Keeping.{same_id}
 use Rattle.palm_arena.proofs.OwnedTrees.{values_length, first_value}
+use Rattle.palm_level.proofs.Families.{passed_all}
 use Rattle.palm_level.specs.Families.{Family, IsFamily, IsPassed, pieces_under}
 use Rattle.palm_level.specs.Groups.{is_alone, is_still}
 use Rattle.palm_level.specs.Splices.{PlacesRise, children_left}
@@ -50,7 +51,7 @@ use Rattle.palm_level.proofs.Bare.{family_length}
 use Rattle.palm_arena.specs.Passes.{IsWithin}
 use Rattle.palm_root.proofs.Raised.{bare_length}
 use Rattle.palm_root.specs.Roots.{StandsBelow, root_cells, HasLeft, IsFound, IsFew, IsHeadOf, HasPut, cell_at}
-use Rattle.palm_root.proofs.RootLeft.{LeafRoot, InnerRoot, at_root, results_passed, inner_left, inner_held, leaf_left, left_alone, left_under}
+use Rattle.palm_root.proofs.RootLeft.{LeafRoot, InnerRoot, at_root, inner_left, inner_held, leaf_left, left_alone, left_under}
 
 -- ---- a node that stands for itself
 
@@ -235,7 +236,7 @@ inner_found p nodes shape changes inner left s more read is = by left is
 
     by : (left : Option (List Piece)) → MatchOption left (is_still changes.nodes ≡ true) (λ pieces. (is_still changes.nodes ≡ false) × (pieces ≡ children_left inner changes.nodes)) → IsFound p nodes changes shape left
     by None still =
-        let passed = results_passed at.n 0 at.stands.results at.stands.right in
+        let passed = passed_all touched at.n 0 at.stands.results at.stands.right in
         let own_pieces : bare (pieces_under at.n at.stands.results) ≡ bare at.root.place.1 =
         sym (flat_bare at.n at.stands.results) ∙ still_own touched at.n at.stands.results at.stands.still passed (sym (ap is_still at.stands.changed) ∙ still)
         ∙ family_own at.n (root_family p nodes changes at) (is_family p nodes changes at) in

@@ -23,7 +23,8 @@ use Rattle.palm_arena.specs.ArenaState.{ArenaState, with_place, NoneLent}
 use Rattle.palm_arena.specs.Reads.{map_of}
 use Rattle.palm_arena.specs.declared.place.Place.TheVariants.{Empty}
 use Rattle.palm_arena.specs.Cells.{Cell, Owns, Turns}
-use Rattle.palm_arena.specs.Placed.{Body, Placed, value_in, value_of, cells_of, node_of, ids_of_children, lows_between}
+use Rattle.palm_arena.specs.Placed.{Body, Placed, value_in, value_of, cells_of, node_of, ids_of_children}
+use Rattle.palm_arena.specs.Routes.{separators_of}
 use Rattle.palm_arena.specs.Standing.{Kept, kept_cells, kept_rows, removed_of}
 use Rattle.palm_node.specs.declared.change.Removed.{Removed}
 use Rattle.palm_arena.proofs.ListParts.{flat_map'}
@@ -70,7 +71,7 @@ leaf_is (suc n) body rows e = absurd cc
 -- An inner node has something below it, and its children are the node's.
 inner_is : (n : ℕ) (body : Body n) (inner : InnerNode) → ◌≡◌ {A = Option Node} (Some (Inner inner)) (Some (node_of n body)) → (0 < n) × (inner.children ≡ map (λ child. child.place.0) (children_in n body))
 inner_is zero body inner e = absurd cc
-inner_is (suc n) body inner e = (omega arith, ap (λ (i : InnerNode). i.children) (same inner (record { children = ids_of_children body; separators = lows_between body }) e) ∙ named body)
+inner_is (suc n) body inner e = (omega arith, ap (λ (i : InnerNode). i.children) (same inner (record { children = ids_of_children body; separators = separators_of body }) e) ∙ named body)
   where
     same : (a b : InnerNode) → ◌≡◌ {A = Option Node} (Some (Inner a)) (Some (Inner b)) → a ≡ b
     same a b e = cc

@@ -21,7 +21,7 @@ use Rattle.palm_arena.specs.Reads.{map_of}
 use Rattle.palm_arena.specs.declared.place.Place.TheVariants.{Holds}
 use Rattle.palm_arena.proofs.Turning.{put_turns, vacant_none}
 use Rattle.palm_arena.proofs.Standing.{none_lent_after_put}
-use Rattle.palm_arena.specs.Placed.{lows_between}
+use Rattle.palm_arena.specs.Routes.{separators_of}
 use Rattle.palm_arena.proofs.Natural.{take-map, drop-map, length-map'}
 use Rattle.palm_root.specs.Raising.{pair_of, nodes_of, pieces_of, cells_at, IsTaken}
 
@@ -56,7 +56,7 @@ pieces_append (i ∷ is) (n ∷ ns) id node e = ap (λ (ps : List Piece). record
 
 -- The cell of a node under an id.
 abbrev cell_at : NodeId → List (ℕ × NodeId) → Cell
-cell_at id children = (id, Inner (record { children = map (λ child. child.1) children; separators = lows_between children }))
+cell_at id children = (id, Inner (record { children = map (λ child. child.1) children; separators = separators_of children }))
 
 cells_append : (ids : List NodeId) (nodes : List (ℕ × List (ℕ × NodeId))) (id : NodeId) (node : ℕ × List (ℕ × NodeId)) → length ids ≡ length nodes → cells_at (ids ++ id ∷ []) (nodes ++ node ∷ []) ≡ cells_at ids nodes ++ cell_at id node.1 ∷ []
 cells_append [] [] id node e = refl
@@ -75,7 +75,7 @@ length_pieces (i ∷ is) [] e = absurd (omega arith)
 length_pieces (i ∷ is) (n ∷ ns) e = ap suc (length_pieces is ns (omega arith))
 
 -- The node over pieces is the one over their lows and ids.
-over_pairs : (pieces : List Piece) → inner_over pieces ≡ record { children = map (λ child. child.1) (node_over (map pair_of pieces)); separators = lows_between (node_over (map pair_of pieces)) }
+over_pairs : (pieces : List Piece) → inner_over pieces ≡ record { children = map (λ child. child.1) (node_over (map pair_of pieces)); separators = separators_of (node_over (map pair_of pieces)) }
 over_pairs [] = refl
 over_pairs (piece ∷ pieces) = ap (λ (ids : List NodeId). let n : InnerNode = record { children = piece.id ∷ ids; separators = later_lows (piece ∷ pieces) } in n) (ids pieces) ∙ ap (λ (lows : List ℕ). let n : InnerNode = record { children = piece.id ∷ map (λ child. child.1) (map pair_of pieces); separators = lows } in n) (lows pieces)
   where
@@ -132,8 +132,8 @@ taken_next level old i new later rest made part size low id far less sized is ow
     pairs_are : pairs ≡ map pair_of part
     pairs_are = take-map pair_of size rest ∙ ap (map pair_of) (sym is)
 
-    over_part : inner_over part ≡ record { children = map (λ child. child.1) (node_over pairs); separators = lows_between (node_over pairs) }
-    over_part = over_pairs part ∙ ap (λ (ps : List (ℕ × NodeId)). let n : InnerNode = record { children = map (λ child. child.1) (node_over ps); separators = lows_between (node_over ps) } in n) (sym pairs_are)
+    over_part : inner_over part ≡ record { children = map (λ child. child.1) (node_over pairs); separators = separators_of (node_over pairs) }
+    over_part = over_pairs part ∙ ap (λ (ps : List (ℕ × NodeId)). let n : InnerNode = record { children = map (λ child. child.1) (node_over ps); separators = separators_of (node_over ps) } in n) (sym pairs_are)
 
     cut_off : pieces_left MOST_CHILDREN (length level) i (map pair_of rest) ≡ pairs ∷ parts
     cut_off = rw sized (left_next MOST_CHILDREN (length level) i (map pair_of rest) less ∙ ap (λ (ps : List (ℕ × NodeId)). take (piece_size MOST_CHILDREN (length level) i) (map pair_of rest) ∷ pieces_left MOST_CHILDREN (length level) (i + 1) ps) (drop-map pair_of (piece_size MOST_CHILDREN (length level) i) rest))

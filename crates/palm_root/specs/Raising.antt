@@ -10,7 +10,8 @@ use Rattle.palm_node.specs.declared.id.Piece.{Piece}
 use Rattle.palm_node.specs.declared.node.Node.{Node}
 use Rattle.palm_node.specs.declared.node.Node.TheVariants.{Inner}
 use Rattle.palm_arena.specs.Cells.{Cell, Owns, Turns}
-use Rattle.palm_arena.specs.Placed.{Placed, values, bare, cells_under, lows_between}
+use Rattle.palm_arena.specs.Placed.{Placed, values, bare, cells_under}
+use Rattle.palm_arena.specs.Routes.{separators_of}
 
 -- A piece by its low and its id.
 abbrev pub pair_of : Piece → ℕ × NodeId
@@ -30,7 +31,7 @@ pieces_of (id ∷ ids) (node ∷ nodes) = record { low = node.0; id = id } ∷ p
 abbrev pub cells_at : List NodeId → List (ℕ × List (ℕ × NodeId)) → List Cell
 cells_at [] nodes = []
 cells_at (id ∷ ids) [] = []
-cells_at (id ∷ ids) (node ∷ nodes) = (id, Inner (record { children = map (λ child. child.1) node.1; separators = lows_between node.1 })) ∷ cells_at ids nodes
+cells_at (id ∷ ids) (node ∷ nodes) = (id, Inner (record { children = map (λ child. child.1) node.1; separators = separators_of node.1 })) ∷ cells_at ids nodes
 
 -- The nodes over the pieces of a level were put into a map, and these pieces stand for them.
 pub record IsTaken (level made : List Piece) (old new : NodeId → Option Node) : Type 0 where

@@ -7,3 +7,4 @@ mod removal;
 mod root;
 
 pub use removal::orphans;
+pub use root::repair;
