@@ -1,5 +1,5 @@
 -- After the leaves have become their ends the changes stand for the pass.
-use Rattle.std.proofs.Common.{◌≡◌, ℕ, zero, Bool, true, false, cond, List, [], ◌∷◌, ◌++◌, length, map, refl, sym, ap, ◌∙◌, append_assoc, subst, arith}
+use Rattle.std.proofs.Common.{◌≡◌, ℕ, zero, suc, Bool, true, false, cond, List, [], ◌∷◌, ◌++◌, length, map, refl, sym, ap, ◌∙◌, append_assoc, subst, arith}
 use Rattle.std.specs.Prelude.{Option}
 use Rattle.std.specs.List.{flat_map, filter, AllByRecursion}
 use Rattle.std.specs.List.Sorted.{IsPermutation}
@@ -13,7 +13,7 @@ use Rattle.palm_node.specs.declared.node.Node.{Node}
 use Rattle.palm_node.specs.declared.node.Node.TheVariants.{Leaf}
 use Rattle.palm_node.specs.declared.change.Change.{Change}
 use Rattle.palm_arena.specs.Cells.{Cell, found_at, Owns, SameCells}
-use Rattle.palm_arena.specs.Placed.{Body, Placed, values, cells_of, cells_under, bare}
+use Rattle.palm_arena.specs.Placed.{Body, Placed, values, cells_of, cells_under, bare, with_ids}
 use Rattle.palm_arena.specs.Sites.{Site, raised, sites_at, cells_above, outcome_at}
 use Rattle.palm_arena.specs.Standing.{Result, is_hit, StandsForItself, IsRight, loose_of, change_of, Stands}
 use Rattle.palm_arena.proofs.CellLists.{owned_same, same_append, same_trans, same_sym, same_eq, same_pass}
@@ -45,11 +45,6 @@ load_ends d loads = flat_map (λ load. end_by d load.site load.parts) loads
 abbrev is_worked : LeafTurn → Bool
 is_worked t = has_parts t.load.parts
 
-abbrev with_ids : List NodeId → List (ℕ × Body zero) → List (ℕ × Placed zero)
-with_ids [] leaves = []
-with_ids (id ∷ ids) [] = []
-with_ids (id ∷ ids) (leaf ∷ leaves) = (leaf.0, (id, leaf.1)) ∷ with_ids ids leaves
-
 abbrev turn_pieces : ℕ → LeafTurn → List (ℕ × Placed zero)
 turn_pieces d t =
     let new = with_ids t.ids (out d t.load.site).pieces in
@@ -71,10 +66,19 @@ turn_stays t = let cells = load_cell t.load ∷ [] in cond (is_worked t) [] cell
 abbrev turn_after : ℕ → LeafTurn → List Cell
 turn_after d t = let cells = leaf_cells t.ids (out d t.load.site).pieces in cond (is_worked t) cells []
 
+-- The serial rule leaves a leaf as it is. Of a root leaf it isn't said: an empty one has no piece by the rule.
+abbrev pub IsLeft : ℕ → Site zero → Type 0
+IsLeft zero site = Unit {0}
+IsLeft (suc d) site = outcome_at zero (suc d) site ≡ record { pieces = (site.low, site.place.1) ∷ []; loose = [] }
+
+-- So it is with one that has no parts.
+abbrev pub IsStillLoad : ℕ → LeafLoad → Type 0
+IsStillLoad d load = has_parts load.parts ≡ false → IsLeft d load.site
+
 -- What is known of a leaf: a worked one has as many ids as pieces, and another is as the serial rule leaves it.
 pub record IsTurn (touched : NodeId → Bool) (d : ℕ) (t : LeafTurn) : Type 0 where
   pub fits : is_worked t ≡ true → length t.ids ≡ length (out d t.load.site).pieces
-  pub still : is_worked t ≡ false → out d t.load.site ≡ record { pieces = (t.load.site.low, t.load.site.place.1) ∷ []; loose = [] }
+  pub still : IsStillLoad d t.load
   pub hit : touched t.load.site.place.0 ≡ is_worked t
 
 -- ---- ids beside ends are turns of the leaves
@@ -127,20 +131,30 @@ cells_placed [] leaves = refl
 cells_placed (id ∷ ids) [] = refl
 cells_placed (id ∷ ids) (l ∷ leaves) = ap (λ (cs : List Cell). (id, Leaf l.1) ∷ cs) (cells_placed ids leaves)
 
-turn_right : (touched : NodeId → Bool) (d : ℕ) (t : LeafTurn) → IsTurn touched d t → IsRight zero d (turn_result d t)
-turn_right touched d t is = by (is_worked t) refl
+turn_right : (touched : NodeId → Bool) (d : ℕ) (t : LeafTurn) → IsTurn touched d t → IsRight touched zero d (turn_result d t)
+turn_right touched zero t is = λ hit. by (is_worked t) refl (sym is.hit ∙ hit)
   where
-    by : (b : Bool) → is_worked t ≡ b → values zero (cond b (with_ids t.ids (out d t.load.site).pieces) ((t.load.site.low, t.load.site.place) ∷ [])) ≡ (out d t.load.site).pieces
-    by true e = leaf_values t.ids (out d t.load.site).pieces (is.fits e)
+    by : (b : Bool) → is_worked t ≡ b → b ≡ true → values zero (cond b (with_ids t.ids (out zero t.load.site).pieces) ((t.load.site.low, t.load.site.place) ∷ [])) ≡ (out zero t.load.site).pieces
+    by true e worked = leaf_values t.ids (out zero t.load.site).pieces (is.fits e)
+    by false e worked = absurd cc
+turn_right touched (suc d) t is = by (is_worked t) refl
+  where
+    by : (b : Bool) → is_worked t ≡ b → values zero (cond b (with_ids t.ids (out (suc d) t.load.site).pieces) ((t.load.site.low, t.load.site.place) ∷ [])) ≡ (out (suc d) t.load.site).pieces
+    by true e = leaf_values t.ids (out (suc d) t.load.site).pieces (is.fits e)
     by false e = ap (λ (o : Outcome zero). o.pieces) (sym (is.still e))
 
 turn_still : (touched : NodeId → Bool) (d : ℕ) (t : LeafTurn) → IsTurn touched d t → StandsForItself touched zero (turn_result d t)
 turn_still touched d t is no_hit = ap (λ (b : Bool). cond b (with_ids t.ids (out d t.load.site).pieces) ((t.load.site.low, t.load.site.place) ∷ [])) (sym is.hit ∙ no_hit)
 
 turn_loosed : (touched : NodeId → Bool) (d : ℕ) (t : LeafTurn) → IsTurn touched d t → cond (is_worked t) (out d t.load.site).loose [] ≡ loose_of zero d (turn_result d t)
-turn_loosed touched d t is = by (is_worked t) refl
+turn_loosed touched zero t is = by (is_worked t)
   where
-    by : (b : Bool) → is_worked t ≡ b → cond b (out d t.load.site).loose [] ≡ (out d t.load.site).loose
+    by : (b : Bool) → cond b (out zero t.load.site).loose [] ≡ (out zero t.load.site).loose
+    by true = refl
+    by false = refl
+turn_loosed touched (suc d) t is = by (is_worked t) refl
+  where
+    by : (b : Bool) → is_worked t ≡ b → cond b (out (suc d) t.load.site).loose [] ≡ (out (suc d) t.load.site).loose
     by true e = refl
     by false e = ap (λ (o : Outcome zero). o.loose) (sym (is.still e))
 
@@ -189,7 +203,7 @@ loose_of_ends d (load ∷ loads) = by load.parts (loose_of_ends d loads)
 
 pub leaves_stand : (d : ℕ) (root : Site (raised zero d)) (touched : NodeId → Bool) (rest : List Cell) (old new : NodeId → Option Node) (loads : List LeafLoad) (changes : List Change) (loose : List Row)
     → map (λ load. load.site) loads ≡ sites_at d zero root
-    → AllByRecursion (λ load. has_parts load.parts ≡ false → out d load.site ≡ record { pieces = (load.site.low, load.site.place.1) ∷ []; loose = [] }) loads
+    → AllByRecursion (IsStillLoad d) loads
     → AllByRecursion (λ load. touched load.site.place.0 ≡ has_parts load.parts) loads
     → Owns old (map load_cell loads ++ (cells_above d zero root ++ rest))
     → LeavesEnd old new (flat_map (λ load. cond (has_parts load.parts) (load_cell load ∷ []) []) loads) (load_ends d loads) changes loose
@@ -200,7 +214,7 @@ leaves_stand d root touched rest old new loads changes loose sites stills hit ow
       kept = [];
       sites = map_map (turn_result d) (λ r. r.site) turns ∙ sym (map_map (λ (t : LeafTurn). t.load) (λ load. load.site) turns) ∙ ap (map (λ load. load.site)) s.loads-are ∙ sites;
       still = all_map (StandsForItself touched zero) (turn_result d) turns (all_each (IsTurn touched d) (λ t. StandsForItself touched zero (turn_result d t)) (turn_still touched d) turns are);
-      right = all_map (IsRight zero d) (turn_result d) turns (all_each (IsTurn touched d) (λ t. IsRight zero d (turn_result d t)) (turn_right touched d) turns are);
+      right = all_map (IsRight touched zero d) (turn_result d) turns (all_each (IsTurn touched d) (λ t. IsRight touched zero d (turn_result d t)) (turn_right touched d) turns are);
       changed = ended.changes-are ∙ s.changes-are ∙ turns_changed touched d turns are;
       removed = refl;
       loose = subst (λ rows. IsPermutation (loose ++ []) rows) loosed (IsPermutation-refl (loose ++ []));
@@ -219,10 +233,10 @@ leaves_stand d root touched rest old new loads changes loose sites stills hit ow
     are : AllByRecursion (IsTurn touched d) turns
     are =
         let Fits : LeafTurn → Type 0 = λ t. is_worked t ≡ true → length t.ids ≡ length (out d t.load.site).pieces in
-        let Still : LeafTurn → Type 0 = λ t. is_worked t ≡ false → out d t.load.site ≡ record { pieces = (t.load.site.low, t.load.site.place.1) ∷ []; loose = [] } in
+        let Still : LeafTurn → Type 0 = λ t. IsStillLoad d t.load in
         let Hit : LeafTurn → Type 0 = λ t. touched t.load.site.place.0 ≡ is_worked t in
         all_each (λ (t : LeafTurn). (Fits t × Still t) × Hit t) (IsTurn touched d) (λ t three. record { fits = three.0.0; still = three.0.1; hit = three.1 }) turns
-        (all_both (λ (t : LeafTurn). Fits t × Still t) Hit turns (all_both Fits Still turns s.fits (of_loads (λ load. has_parts load.parts ≡ false → out d load.site ≡ record { pieces = (load.site.low, load.site.place.1) ∷ []; loose = [] }) stills))
+        (all_both (λ (t : LeafTurn). Fits t × Still t) Hit turns (all_both Fits Still turns s.fits (of_loads (IsStillLoad d) stills))
         (of_loads (λ load. touched load.site.place.0 ≡ has_parts load.parts) hit))
 
     loosed : loose ++ [] ≡ flat_map (loose_of zero d) (map (turn_result d) turns)

@@ -11,7 +11,8 @@ use Rattle.palm_node.specs.declared.node.Node.{Node}
 use Rattle.palm_node.specs.declared.node.Node.TheVariants.{Leaf}
 use Rattle.palm_node.specs.declared.change.Change.{Change}
 use Rattle.palm_arena.specs.Cells.{Cell, Owns, SameCells, Turns}
-use Rattle.palm_arena.proofs.CellLists.{owned_front, owned_same, same_append, same_swap, same_trans, same_pass, same_eq}
+use Rattle.palm_arena.proofs.OwnedTrees.{first_holds}
+use Rattle.palm_arena.proofs.CellLists.{owned_same, same_append, same_swap, same_trans, same_eq}
 use Rattle.palm_arena.proofs.Natural.{length-map'}
 use Rattle.palm_arena.proofs.Turning.{turns_then, turns_same}
 use Rattle.palm_route.specs.declared.part.Group.{Group}
@@ -89,14 +90,6 @@ same_back (cell ∷ cells) =
     same_trans (reverse (cell ∷ cells)) (reverse cells ++ cell ∷ []) (cell ∷ cells) (same_eq (reverse (cell ∷ cells)) (reverse cells ++ cell ∷ []) (reverse_first cell cells))
     (same_trans (reverse cells ++ cell ∷ []) (cell ∷ reverse cells) (cell ∷ cells) (same_swap (reverse cells) (cell ∷ []))
     (same_append (cell ∷ []) (cell ∷ []) (reverse cells) cells (λ i. refl) (same_back cells)))
-
--- A map has each of the cells that it owns.
-pub all_held : (nodes : NodeId → Option Node) (cells others : List Cell) → Owns nodes (cells ++ others) → AllByRecursion (λ cell. nodes cell.0 ≡ Some cell.1) cells
-all_held nodes [] others owned = tt
-all_held nodes (cell ∷ cells) others owned = (
-  (owned_front nodes cell.0 cell.1 (cells ++ others) owned).0,
-  all_held nodes cells (cell ∷ others) (owned_same nodes ((cell ∷ []) ++ (cells ++ others)) (cells ++ (cell ∷ others)) owned (same_pass (cell ∷ []) cells others)),
-)
 
 -- A leaf that was given back stands as its lease had it.
 done_are_leases : (start nodes : NodeId → Option Node) (least : ℕ) (groups : List Group) (works : List LeafWork) → Matched (IsEnded start least) groups works → AllByRecursion (λ cell. nodes cell.0 ≡ Some cell.1) (map lease_cell works)
@@ -215,7 +208,7 @@ pub done_owned : (start back : NodeId → Option Node) (least : ℕ) (groups : L
     → done ≡ map done_of (reverse works) → (reverse done ≡ map done_of works) × Owns back (done_cells back (reverse done) ++ others)
 done_owned start back least groups works done others all owned is =
     let order : reverse done ≡ map done_of works = ap reverse (is ∙ map_back done_of works) ∙ reverse-reverse (map done_of works) in
-    let held = all_held back (map lease_cell works) others owned in
+    let held = first_holds back (map lease_cell works) others owned in
     (order, subst (λ (cells : List Cell). Owns back (cells ++ others)) (sym (ap (done_cells back) order ∙ done_are_leases start back least groups works all held)) owned)
 
 pub leaves_done : (start lent back new : NodeId → Option Node) (least : ℕ) (groups : List Group) (works : List LeafWork) (done : List LeafDone) (others : List Cell) (gathered : Gathered)
@@ -225,7 +218,7 @@ pub leaves_done : (start lent back new : NodeId → Option Node) (least : ℕ) (
 leaves_done start lent back new least groups works done others gathered some all owned first then is ends answers =
     let now = given_owned start lent back least groups works others owned first then in
     let order = (done_owned start back least groups works done others all now is).0 in
-    let held = all_held back (map lease_cell works) others now in
+    let held = first_holds back (map lease_cell works) others now in
     let cells = map lease_cell works in
     let as_ends : map (end_of_done back) (reverse done) ≡ map (end_of start least) groups = ap (map (end_of_done back)) order ∙ ends_are start back least groups works all held in
     let as_cells : done_cells back (reverse done) ≡ cells = ap (done_cells back) order ∙ done_are_leases start back least groups works all held in

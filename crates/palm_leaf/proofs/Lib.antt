@@ -1,5 +1,8 @@
+pub mod Beginnings
 mod Filtered
+pub mod KeptOrder
 pub mod LaterLeaves
+pub mod LeavesAnswer
 mod LeavesRun
 mod LeafStands
 mod LoadFacts
@@ -12,5 +15,7 @@ pub mod PlanRoom
 pub mod Ranges
 pub mod SettleSteps
 pub mod Settlings
+pub mod Spreads
 pub mod StagePass
+pub mod TableAnswers
 pub mod Working

@@ -7,7 +7,8 @@ use Rattle.std.proofs.lemmas.List.{append-nil}
 use Rattle.std.proofs.lemmas.List.Concat.{flat_map-append}
 use mathlib.Core.List.{map-append}
 use Rattle.palm_base.specs.Pass.{edit_key, goes_left, goes_right}
-use Rattle.palm_base.specs.Lawful.{next_low, Sound, InOrder, Root}
+use Rattle.palm_base.specs.Lawful.{next_low, Sound, InOrder, Root, IsLawful}
+use Rattle.palm_base.proofs.Every.{every_append}
 use Rattle.palm_base.proofs.SoundNodes.{in_order_proper}
 use Rattle.palm_base.specs.declared.bounds.TheConstants.{LEAST_CHILDREN}
 use Rattle.palm_base.specs.declared.call.Call.{Call}
@@ -15,13 +16,15 @@ use Rattle.palm_node.specs.declared.id.NodeId.{NodeId}
 use Rattle.palm_node.specs.declared.node.Node.{Node}
 use Rattle.palm_arena.specs.declared.shape.Shape.{Shape}
 use Rattle.palm_arena.specs.Reads.{inner_in}
-use Rattle.palm_arena.specs.Leaves.{LeafPlace, leaves_of_children, leaves_of_node, leaves_under}
-use Rattle.palm_arena.specs.Cells.{Cell, Owns}
-use Rattle.palm_arena.specs.Placed.{Placed, value_in, values, cells_of, ids_of_children, lows_between, node_of}
+use Rattle.palm_arena.specs.Leaves.{LeafPlace, leaves_of_children, leaves_of_node, leaves_under, leaves_at}
+use Rattle.palm_arena.specs.Cells.{Owns}
+use Rattle.palm_arena.specs.Placed.{Placed, value_in, value_of, values, cells_of, ids_of_children, node_of}
+use Rattle.palm_arena.specs.Routes.{separators_of}
 use Rattle.palm_arena.specs.Sites.{Site, sites_of_children}
 use Rattle.palm_arena.specs.Passes.{Pass, root_site, leaf_sites, Begins}
-use Rattle.palm_arena.proofs.CellLists.{owned_front, owned_same, same_swap}
-use Rattle.palm_arena.proofs.ListParts.{all_front, all_flat}
+use Rattle.palm_arena.proofs.ListParts.{all_flat}
+use Rattle.palm_arena.proofs.PlacedTrees.{Holds}
+use Rattle.palm_arena.proofs.OwnedTrees.{first_holds}
 use Rattle.palm_route.specs.Edits.{edit_before, edits_of}
 use Rattle.palm_route.specs.Groups.{group_at, groups_of}
 use Rattle.palm_route.specs.declared.part.Ask.{Ask}
@@ -80,7 +83,7 @@ groups_join place (second ∷ places) next more parts below =
 -- ---- the loads of a node's leaves
 
 -- The loads of the leaves under these children of a node, as those of one child are given.
-abbrev loads_of_children : (n : ℕ) → (Site n → ℕ → List Part → List LeafLoad) → List (NodeId × ℕ) → NodeId → ℕ → ℕ → List (ℕ × Placed n) → List Call → List Part → List LeafLoad
+abbrev pub loads_of_children : (n : ℕ) → (Site n → ℕ → List Part → List LeafLoad) → List (NodeId × ℕ) → NodeId → ℕ → ℕ → List (ℕ × Placed n) → List Call → List Part → List LeafLoad
 loads_of_children n go path id i low [] edits parts = []
 loads_of_children n go path id i low (child ∷ []) edits parts = go (record { path = path ++ (id, i) ∷ []; low = child.0; place = child.1; edits = edits }) low parts
 loads_of_children n go path id i low (child ∷ next ∷ children) edits parts =
@@ -88,7 +91,7 @@ loads_of_children n go path id i low (child ∷ next ∷ children) edits parts =
     ++ loads_of_children n go path id (suc i) next.0 (next ∷ children) (filter (goes_right next.0) edits) (filter (λ p. leb next.0 p.key) parts)
 
 -- The loads of the leaves under a site whose range begins at `low`.
-abbrev loads_under : (n : ℕ) → Site n → ℕ → List Part → List LeafLoad
+abbrev pub loads_under : (n : ℕ) → Site n → ℕ → List Part → List LeafLoad
 loads_under zero site low parts = record { site = site; low = low; parts = parts } ∷ []
 loads_under (suc n) site low parts = loads_of_children n (loads_under n) site.path site.place.0 0 low site.place.1 site.edits parts
 
@@ -109,19 +112,6 @@ sites_loaded (suc n) site low parts = each site.path site.place.0 0 low site.pla
         ∙ ap (λ sites. leaf_sites n (record { path = path ++ (id, i) ∷ []; low = child.0; place = child.1; edits = filter (goes_left next.0) edits }) ++ sites)
         (each path id (suc i) next.0 (next ∷ children) (filter (goes_right next.0) edits) (filter (λ p. leb next.0 p.key) parts) ih)
 
--- ---- what a map holds
-
-abbrev Holds : (NodeId → Option Node) → (n : ℕ) → Placed n → Type 0
-Holds nodes n placed = AllByRecursion (λ cell. nodes cell.0 ≡ Some cell.1) (cells_of n placed)
-
--- Each of the cells that a map owns is in it.
-owned_all : (nodes : NodeId → Option Node) (before cells : List Cell) → Owns nodes (before ++ cells) → AllByRecursion (λ cell. nodes cell.0 ≡ Some cell.1) cells
-owned_all nodes before [] owned = tt
-owned_all nodes before (cell ∷ cells) owned = (
-  (owned_front nodes cell.0 cell.1 (cells ++ before) (owned_same nodes (before ++ (cell ∷ cells)) ((cell ∷ cells) ++ before) owned (same_swap before (cell ∷ cells)))).0,
-  owned_all nodes (before ++ cell ∷ []) cells (subst (Owns nodes) (sym (append_assoc before (cell ∷ []) cells)) owned),
-)
-
 -- ---- groups and loads under a node
 
 -- Leaves from one key up to another, whose groups of these parts are those of the loads.
@@ -132,10 +122,6 @@ record Matches (low high : ℕ) (places : List LeafPlace) (parts : List Part) (l
   low-is : first.low ≡ low
   below : AllByRecursion (λ place. place.low < high) places
   groups : groups_of places parts ≡ flat_map load_group loads
-
-all_append : {X : Type 0} (P : X → Type 0) (xs ys : List X) → AllByRecursion P xs → AllByRecursion P ys → AllByRecursion P (xs ++ ys)
-all_append P [] ys a b = b
-all_append P (x ∷ xs) ys a b = (a.0, all_append P xs ys a.1 b)
 
 below_more : (low high : ℕ) (places : List LeafPlace) → low ≤ high → AllByRecursion (λ place. place.low < low) places → AllByRecursion (λ place. place.low < high) places
 below_more low high [] h a = tt
@@ -149,7 +135,7 @@ matches_join low mid high places places' parts loads loads' h left right = recor
   more = left.more ++ places';
   places-are = ap (λ ps. ps ++ places') left.places-are;
   low-is = left.low-is;
-  below = all_append (λ place. place.low < high) places places' (below_more mid high places h left.below) right.below;
+  below = every_append (λ place. place.low < high) places places' (below_more mid high places h left.below) right.below;
   groups =
       ap (λ ps. groups_of (ps ++ places') parts) left.places-are ∙ ap (λ ps. groups_of ((left.first ∷ left.more) ++ ps) parts) right.places-are
       ∙ groups_join left.first left.more right.first right.more parts (subst (λ (m : ℕ). AllByRecursion (λ place. place.low < m) left.more) (sym right.low-is) (rest left.first left.more (subst (AllByRecursion (λ place. place.low < mid)) left.places-are left.below)))
@@ -169,12 +155,12 @@ matches_end low high places parts loads m = subst (λ ps. Matches low high ps pa
 -- What is shown of a node below the root, of its children.
 abbrev NodesMatch : (NodeId → Option Node) → ℕ → Type 0
 NodesMatch nodes n =
-    (site : Site n) (low high : ℕ) (parts : List Part) → Holds nodes n site.place → low < high → Sound n low high (value_in n site.place.1)
+    (site : Site n) (low high : ℕ) (parts : List Part) → Holds nodes (cells_of n site.place) → low < high → Sound n low high (value_in n site.place.1)
     → Matches low high (leaves_under nodes n site.path low site.place.0) parts (loads_under n site low parts)
 
 children_match : (nodes : NodeId → Option Node) (n : ℕ) → NodesMatch nodes n → (path : List (NodeId × ℕ)) (id : NodeId) (i low high : ℕ) (child : ℕ × Placed n) (children : List (ℕ × Placed n)) (edits : List Call) (parts : List Part)
-    → AllByRecursion (λ c. Holds nodes n c.1) (child ∷ children) → InOrder n low high (values n (child ∷ children))
-    → Matches low high (leaves_of_children (leaves_under nodes n) path id i (low ∷ lows_between (child ∷ children)) (ids_of_children (child ∷ children))) parts (loads_of_children n (loads_under n) path id i low (child ∷ children) edits parts)
+    → AllByRecursion (λ c. Holds nodes (cells_of n c.1)) (child ∷ children) → InOrder n low high (values n (child ∷ children))
+    → Matches low high (leaves_of_children (leaves_under nodes n) path id i (low ∷ separators_of (child ∷ children)) (ids_of_children (child ∷ children))) parts (loads_of_children n (loads_under n) path id i low (child ∷ children) edits parts)
 children_match nodes n ih path id i low high child [] edits parts held order =
     let site : Site n = record { path = path ++ (id, i) ∷ []; low = child.0; place = child.1; edits = edits } in
     matches_end low high (leaves_under nodes n site.path low child.1.0) parts (loads_under n site low parts) (ih site low high parts held.0 order.0.0 order.0.1)
@@ -189,13 +175,13 @@ children_match nodes n ih path id i low high child (next ∷ children) edits par
     proper next children order = in_order_proper n next.0 high (next.0, value_in n next.1.1) (values n children) order
 
 -- The rules of a node's own cell and of its children's.
-held_node : (nodes : NodeId → Option Node) (n : ℕ) (placed : Placed (suc n)) → Holds nodes (suc n) placed
-    → (nodes placed.0 ≡ Some (node_of (suc n) placed.1)) × AllByRecursion (λ child. Holds nodes n child.1) placed.1
+pub held_node : (nodes : NodeId → Option Node) (n : ℕ) (placed : Placed (suc n)) → Holds nodes (cells_of (suc n) placed)
+    → (nodes placed.0 ≡ Some (node_of (suc n) placed.1)) × AllByRecursion (λ child. Holds nodes (cells_of n child.1)) placed.1
 held_node nodes n placed held = (held.0, all_flat (λ cell. nodes cell.0 ≡ Some cell.1) (λ child. cells_of n child.1) placed.1 held.1)
 
 -- The leaves under an inner node that a map holds.
-leaves_node : (nodes : NodeId → Option Node) (n : ℕ) (path : List (NodeId × ℕ)) (low : ℕ) (placed : Placed (suc n)) → nodes placed.0 ≡ Some (node_of (suc n) placed.1)
-    → leaves_under nodes (suc n) path low placed.0 ≡ leaves_of_children (leaves_under nodes n) path placed.0 0 (low ∷ lows_between placed.1) (ids_of_children placed.1)
+pub leaves_node : (nodes : NodeId → Option Node) (n : ℕ) (path : List (NodeId × ℕ)) (low : ℕ) (placed : Placed (suc n)) → nodes placed.0 ≡ Some (node_of (suc n) placed.1)
+    → leaves_under nodes (suc n) path low placed.0 ≡ leaves_of_children (leaves_under nodes n) path placed.0 0 (low ∷ separators_of placed.1) (ids_of_children placed.1)
 leaves_node nodes n path low placed e = ap (λ (o : Option Node). leaves_of_node (leaves_under nodes n) path low placed.0 (inner_in o)) e
 
 nodes_match : (nodes : NodeId → Option Node) (n : ℕ) → NodesMatch nodes n
@@ -212,8 +198,8 @@ nodes_match nodes (suc n) site low high parts held less sound =
     subst (λ ps. Matches low high ps parts (loads_under (suc n) site low parts)) (sym (leaves_node nodes n site.path low site.place here.0))
     (some (nodes_match nodes n) site.place.1 site.edits here.1 sound.0.0 sound.2)
   where
-    some : NodesMatch nodes n → (children : List (ℕ × Placed n)) (edits : List Call) → AllByRecursion (λ c. Holds nodes n c.1) children → LEAST_CHILDREN ≤ length (values n children) → InOrder n low high (values n children)
-        → Matches low high (leaves_of_children (leaves_under nodes n) site.path site.place.0 0 (low ∷ lows_between children) (ids_of_children children)) parts (loads_of_children n (loads_under n) site.path site.place.0 0 low children edits parts)
+    some : NodesMatch nodes n → (children : List (ℕ × Placed n)) (edits : List Call) → AllByRecursion (λ c. Holds nodes (cells_of n c.1)) children → LEAST_CHILDREN ≤ length (values n children) → InOrder n low high (values n children)
+        → Matches low high (leaves_of_children (leaves_under nodes n) site.path site.place.0 0 (low ∷ separators_of children) (ids_of_children children)) parts (loads_of_children n (loads_under n) site.path site.place.0 0 low children edits parts)
     some ih [] edits held many order = absurd (omega arith)
     some ih (child ∷ children) edits held many order = children_match nodes n ih site.path site.place.0 0 low high child children edits parts held order
 
@@ -239,7 +225,7 @@ children_hold n ih path id i low first high child [] edits parts order are keys 
     ih (record { path = path ++ (id, i) ∷ []; low = child.0; place = child.1; edits = edits }) low first high parts order.0.1 are keys is
 children_hold n ih path id i low first high child (next ∷ children) edits parts order are keys is =
     let site : Site n = record { path = path ++ (id, i) ∷ []; low = child.0; place = child.1; edits = filter (goes_left next.0) edits } in
-    all_append IsLoad (loads_under n site low (filter (λ p. ltb p.key next.0) parts)) _
+    every_append IsLoad (loads_under n site low (filter (λ p. ltb p.key next.0) parts)) _
     (ih site low first next.0 (filter (λ p. ltb p.key next.0) parts) order.0.1 (ap (filter (goes_left next.0)) are ∙ sym (edits-filter (λ k. ltb k next.0) parts keys)) (all_filter HasKey (λ p. ltb p.key next.0) parts keys) is)
     (children_hold n ih path id (suc i) next.0 next.0 high next children (filter (goes_right next.0) edits) (filter (λ p. leb next.0 p.key) parts) order.1
     (ap (filter (goes_right next.0)) are ∙ sym (edits-filter (λ k. leb next.0 k) parts keys)) (all_filter HasKey (λ p. leb next.0 p.key) parts keys) (sym (written_later path id i next.0)))
@@ -255,19 +241,19 @@ nodes_hold (suc n) site low first high parts sound are keys is = some (nodes_hol
 
 -- ---- a pass's leaves
 
-root_matches : (p : Pass) (nodes : NodeId → Option Node) (high : ℕ) (parts : List Part) → Holds nodes p.tree.0 p.tree.1 → Root p.tree.0 high (value_in p.tree.0 p.tree.1.1)
+pub root_matches : (p : Pass) (nodes : NodeId → Option Node) (high : ℕ) (parts : List Part) → Holds nodes (cells_of p.tree.0 p.tree.1) → Root p.tree.0 high (value_in p.tree.0 p.tree.1.1)
     → groups_of (leaves_under nodes p.tree.0 [] 0 p.tree.1.0) parts ≡ flat_map load_group (loads_under p.tree.0 (root_site p) 0 parts)
 root_matches p nodes high parts = by p.tree.0 p.tree.1
   where
-    by : (n : ℕ) (placed : Placed n) → Holds nodes n placed → Root n high (value_in n placed.1)
+    by : (n : ℕ) (placed : Placed n) → Holds nodes (cells_of n placed) → Root n high (value_in n placed.1)
         → groups_of (leaves_under nodes n [] 0 placed.0) parts ≡ flat_map load_group (loads_under n (record { path = []; low = 0; place = placed; edits = p.edits }) 0 parts)
     by zero placed held root = sym (append-nil (group_at (record { leaf = placed.0; path = []; low = 0 }) parts))
     by (suc n) placed held root =
         let here = held_node nodes n placed held in
         ap (λ ps. groups_of ps parts) (leaves_node nodes n [] 0 placed here.0) ∙ some n placed.0 placed.1 here.1 root.0.0 root.2
       where
-        some : (n : ℕ) (id : NodeId) (children : List (ℕ × Placed n)) → AllByRecursion (λ c. Holds nodes n c.1) children → 2 ≤ length (values n children) → InOrder n 0 high (values n children)
-            → groups_of (leaves_of_children (leaves_under nodes n) [] id 0 (0 ∷ lows_between children) (ids_of_children children)) parts ≡ flat_map load_group (loads_of_children n (loads_under n) [] id 0 0 children p.edits parts)
+        some : (n : ℕ) (id : NodeId) (children : List (ℕ × Placed n)) → AllByRecursion (λ c. Holds nodes (cells_of n c.1)) children → 2 ≤ length (values n children) → InOrder n 0 high (values n children)
+            → groups_of (leaves_of_children (leaves_under nodes n) [] id 0 (0 ∷ separators_of children) (ids_of_children children)) parts ≡ flat_map load_group (loads_of_children n (loads_under n) [] id 0 0 children p.edits parts)
         some n id [] held many order = absurd (omega arith)
         some n id (child ∷ children) held many order = (children_match nodes n (nodes_match nodes n) [] id 0 0 high child children p.edits parts held order).groups
 
@@ -284,18 +270,23 @@ root_loads p high parts root are keys = by p.tree.0 p.tree.1 root
         some n id [] first-zero order = tt
         some n id (child ∷ children) first-zero order = children_hold n (nodes_hold n) [] id 0 0 0 high child children p.edits parts order are keys first-zero
 
--- The leaves of a pass have the parts of its groups.
-pub loads_of : (p : Pass) (nodes : NodeId → Option Node) (shape : Shape) (groups : List Group) (parts : List Part) → Begins p nodes shape → IsRouted p nodes shape groups parts → Loads p groups
-loads_of p nodes shape groups parts begins routed = record {
+-- The leaves of a tree that a map holds have the parts of the groups on its leaves, whatever is routed.
+pub loads_at : (p : Pass) (nodes : NodeId → Option Node) (shape : Shape) (parts : List Part) → IsLawful (value_of p.tree) → shape.root ≡ p.tree.1.0 → shape.levels ≡ suc p.tree.0 → Owns nodes (cells_of p.tree.0 p.tree.1 ++ p.rest)
+    → p.edits ≡ edits_of parts → AllByRecursion HasKey parts → Loads p (groups_of (leaves_at nodes shape) parts)
+loads_at p nodes shape parts lawful root levels owned edits keys = record {
   loads = loads_under p.tree.0 (root_site p) 0 parts;
   sites-are = sites_loaded p.tree.0 (root_site p) 0 parts;
   groups-are =
-      routed.groups-are
-      ∙ ap (λ (n : ℕ). groups_of (leaves_under nodes n [] 0 shape.root) parts) (let e = begins.levels in omega arith)
-      ∙ ap (λ (id : NodeId). groups_of (leaves_under nodes p.tree.0 [] 0 id) parts) begins.root
-      ∙ root_matches p nodes begins.is-pass.lawful.0 parts held begins.is-pass.lawful.1;
-  each = root_loads p begins.is-pass.lawful.0 parts begins.is-pass.lawful.1 routed.edits-are routed.keys;
+      ap (λ (n : ℕ). groups_of (leaves_under nodes n [] 0 shape.root) parts) (omega (arith, levels))
+      ∙ ap (λ (id : NodeId). groups_of (leaves_under nodes p.tree.0 [] 0 id) parts) root
+      ∙ root_matches p nodes lawful.0 parts held lawful.1;
+  each = root_loads p lawful.0 parts lawful.1 edits keys;
 }
   where
-    held : Holds nodes p.tree.0 p.tree.1
-    held = (all_front (λ cell. nodes cell.0 ≡ Some cell.1) (cells_of p.tree.0 p.tree.1) p.rest (owned_all nodes [] (cells_of p.tree.0 p.tree.1 ++ p.rest) begins.owned)).0
+    held : Holds nodes (cells_of p.tree.0 p.tree.1)
+    held = first_holds nodes (cells_of p.tree.0 p.tree.1) p.rest owned
+
+-- The leaves of a pass have the parts of its groups.
+pub loads_of : (p : Pass) (nodes : NodeId → Option Node) (shape : Shape) (groups : List Group) (parts : List Part) → Begins p nodes shape → IsRouted p nodes shape groups parts → Loads p groups
+loads_of p nodes shape groups parts begins routed =
+    subst (Loads p) (sym routed.groups-are) (loads_at p nodes shape parts begins.is-pass.lawful begins.root begins.levels begins.owned routed.edits-are routed.keys)

@@ -20,6 +20,7 @@ use Rattle.palm_arena.specs.Placed.{Placed, value_in}
 use Rattle.palm_arena.specs.Sites.{Site, raised, sites_at, cells_above, outcome_at}
 use Rattle.palm_arena.specs.Passes.{Pass, is_among, root_site, leaf_sites, Begins, StandsAt}
 use Rattle.palm_arena.proofs.CellLists.{owned_same, same_append, same_trans, same_eq}
+use Rattle.palm_arena.proofs.OwnedTrees.{first_holds}
 use Rattle.palm_arena.proofs.ListParts.{same_parted, map_all, all_each, all_both}
 use Rattle.palm_route.specs.Edits.{edits_of}
 use Rattle.palm_route.specs.declared.part.Part.{Part}
@@ -33,8 +34,7 @@ use Rattle.palm_leaf.specs.Worked.{leaf_left}
 use Rattle.palm_leaf.specs.declared.settling.Gathered.{Gathered}
 use Rattle.palm_leaf.proofs.Loads.{loads_of}
 use Rattle.palm_leaf.proofs.LoadFacts.{raised_sum, by_levels, leaf_sites_are, load_cell, loads_owned, has_parts, hits, IsFull, root_full}
-use Rattle.palm_leaf.proofs.LeafStands.{end_by, load_ends, leaves_stand}
-use Rattle.palm_leaf.proofs.LeavesRun.{all_held}
+use Rattle.palm_leaf.proofs.LeafStands.{IsStillLoad, end_by, load_ends, leaves_stand}
 
 -- A pass whose root is counted up from the leaves.
 abbrev pass_at : (d : ℕ) → Placed (raised zero d) → Pass → Pass
@@ -116,9 +116,6 @@ ends_of_groups nodes least d (load ∷ loads) each held fits = by load.site load
 
 -- ---- what the serial rule makes of a leaf
 
-abbrev IsStillLoad : ℕ → LeafLoad → Type 0
-IsStillLoad d load = has_parts load.parts ≡ false → outcome_at zero d load.site ≡ record { pieces = (load.site.low, load.site.place.1) ∷ []; loose = [] }
-
 never_small : (rows : List Row) → is_small 0 rows ≡ false
 never_small [] = refl
 never_small (row ∷ rows) = le-ltb (length (row ∷ rows)) 0 (omega arith)
@@ -131,17 +128,12 @@ no_parts (part ∷ parts) none = absurd cc
 root_cut : (site : Site zero) → site.low ≡ 0 → leaf_left 0 site.low (after_all site.place.1 site.edits) ≡ outcome_at zero zero site
 root_cut site low = rw (never_small (after_all site.place.1 site.edits), low) refl
 
-one_load : (root : Site zero) (loads : List LeafLoad) (groups : List Group) → map (λ load. load.site) loads ≡ root ∷ [] → root.low ≡ 0 → groups ≡ flat_map load_group loads → 1 ≤ length groups
-    → AllByRecursion (IsCut 0 zero) loads × AllByRecursion (IsStillLoad zero) loads
-one_load root [] groups sites low are some = absurd cc
-one_load root (load ∷ later ∷ loads) groups sites low are some = absurd cc
-one_load root (load ∷ []) groups sites low are some =
+one_load : (root : Site zero) (loads : List LeafLoad) → map (λ load. load.site) loads ≡ root ∷ [] → root.low ≡ 0 → AllByRecursion (IsCut 0 zero) loads × AllByRecursion (IsStillLoad zero) loads
+one_load root [] sites low = absurd cc
+one_load root (load ∷ later ∷ loads) sites low = absurd cc
+one_load root (load ∷ []) sites low =
     let same : load.site ≡ root = cc in
-    ((root_cut load.site (ap (λ (s : Site zero). s.low) same ∙ low), tt), ((λ none. absurd (by load.site load.low load.parts none are)), tt))
-  where
-    by : (site : Site zero) (own : ℕ) (parts : List Part) → has_parts parts ≡ false → groups ≡ flat_map load_group (record { site = site; low = own; parts = parts } ∷ []) → ⊥
-    by site own [] none is = omega (arith, some, ap length is)
-    by site own (part ∷ parts) none is = absurd cc
+    ((root_cut load.site (ap (λ (s : Site zero). s.low) same ∙ low), tt), ((λ none. tt), tt))
 
 -- A leaf below the root.
 full_still : (d : ℕ) (load : LeafLoad) → IsLoad load → IsFull load.site → IsStillLoad (suc d) load
@@ -195,7 +187,7 @@ pass_facts d place p nodes shape groups parts begins routed =
       each = l.each;
       sites-are = sites;
       owned = owned;
-      held = loads_held nodes l.loads (all_held nodes (map load_cell l.loads) (cells_above d zero root ++ p.rest) owned);
+      held = loads_held nodes l.loads (first_holds nodes (map load_cell l.loads) (cells_above d zero root ++ p.rest) owned);
       cuts = fits.0;
       stills = fits.1;
     }
@@ -204,7 +196,7 @@ pass_facts d place p nodes shape groups parts begins routed =
         → map (λ load. load.site) l.loads ≡ sites_at d zero (root_site (pass_at d place p)) → AllByRecursion (IsCut (least_of shape) d) l.loads × AllByRecursion (IsStillLoad d) l.loads
     by zero place begins routed l sites =
         subst (λ least. AllByRecursion (IsCut least zero) l.loads × AllByRecursion (IsStillLoad zero) l.loads) (sym (least_root shape begins.levels))
-        (one_load (root_site (pass_at zero place p)) l.loads groups sites refl l.groups-are routed.some)
+        (one_load (root_site (pass_at zero place p)) l.loads sites refl)
     by (suc d) place begins routed l sites =
         let n = raised zero (suc d) in
         let some : 1 ≤ n = omega (arith, raised_sum zero (suc d)) in

@@ -1,13 +1,19 @@
--- What a leaf's work leaves where the leaf isn't kept.
-use Rattle.std.proofs.Common.{◌≡◌, ◌≤◌, vec_len, ℕ, true, false, List, [], refl, ap, subst, arith, ◌∙◌, ◌⊎◌, inl, inr, Some}
+-- What a leaf's work leaves where the leaf isn't written: it is removed, or stands for itself.
+use Rattle.std.proofs.Common.{◌≡◌, ◌≤◌, ◌<◌, ◌||◌, vec_len, length, ℕ, true, false, List, [], ◌∷◌, refl, sym, ap, subst, arith, ◌∙◌, ◌⊎◌, inl, inr, Some}
+use Rattle.palm_base.specs.Table.{after_all}
 use Rattle.palm_base.specs.Pass.{is_small}
 use Rattle.palm_base.specs.declared.bounds.TheConstants.{MOST_LEAF_ROWS}
 use Rattle.palm_base.specs.declared.row.Row.{Row}
-use Rattle.palm_base.proofs.Cuts.{cut_none}
+use Rattle.palm_base.proofs.Cuts.{cut_none, few_are_one_piece}
 use Rattle.palm_node.specs.declared.node.Node.{Node}
 use Rattle.palm_node.specs.declared.node.Node.TheVariants.{Leaf}
+use Rattle.palm_route.specs.Edits.{edit_before, edits_of}
+use Rattle.palm_route.specs.declared.part.Ask.{Ask}
+use Rattle.palm_route.specs.declared.part.Ask.TheVariants as ask
+use Rattle.palm_route.specs.declared.part.Part.{Part}
 use Rattle.palm_leaf.specs.Answers.{rows_in_node}
-use Rattle.palm_leaf.specs.Worked.{leaf_left, outcome_shown, IsResolved, IsWorked}
+use Rattle.palm_leaf.specs.Asked.{is_edit, has_edit}
+use Rattle.palm_leaf.specs.Worked.{leaf_left, outcome_shown, parts_of_plan, IsResolved, IsWorked}
 use Rattle.palm_leaf.specs.declared.leaf_work.LeafPlan.{LeafPlan}
 use Rattle.palm_leaf.specs.declared.leaf_work.LeafWork.{LeafWork}
 
@@ -31,4 +37,42 @@ worked_removed rows node work plan resolved read leaf not_kept none removed =
       outcome = rw (done.kept ∙ not_kept)
           (left_removed plan.least work.plan.low plan.rows.items [] [] removed
           ∙ ap (λ least. leaf_left least work.plan.low plan.rows.items) done.least ∙ ap (leaf_left work.plan.least work.plan.low) done.rows-are);
+    }
+
+-- Parts that look and list leave the rows as they are.
+no_edits : (parts : List Part) → has_edit parts ≡ false → edits_of parts ≡ []
+no_edits [] none = refl
+no_edits (part ∷ parts) none = by part.ask none (no_edits parts)
+  where
+    by : (what : Ask) → is_edit what || has_edit parts ≡ false → (has_edit parts ≡ false → edits_of parts ≡ []) → edit_before part.key what (edits_of parts) ≡ []
+    by (ask.Set rate) none rest = absurd cc
+    by ask.Del none rest = absurd cc
+    by ask.Look none rest = rest none
+    by (ask.List from to limit) none rest = rest none
+
+-- Rows that are enough for a leaf, and not too many, are one.
+left_itself : (least low : ℕ) (rows : List Row) → 0 < length rows → is_small least rows ≡ false → length rows ≤ MOST_LEAF_ROWS → leaf_left least low rows ≡ record { pieces = (low, rows) ∷ []; loose = [] }
+left_itself least low rows some enough few = rw (enough, few_are_one_piece MOST_LEAF_ROWS rows some few) refl
+
+-- A leaf that has no edit, and enough rows, stands for itself.
+pub worked_itself : (rows : List Row) (node : Node) (work : LeafWork) (plan : LeafPlan) → IsResolved (rows_in_node (Some node)) work.plan plan → node ≡ work.lease.node → work.lease.node ≡ Leaf rows
+    → work.plan.later.items ≡ [] → vec_len work.plan.later ≡ 0 → has_edit (parts_of_plan work.plan) ≡ false → length (rows_in_node (Some node)) ≤ MOST_LEAF_ROWS
+    → (0 < length plan.rows.items) × (is_small plan.least plan.rows.items ≡ false) → IsWorked rows work (record { lease = work.lease; plan = record plan { kept = true } })
+worked_itself rows node work plan resolved read leaf no_later none looks most stays =
+    let held : rows_in_node (Some node) ≡ rows = ap (λ n. rows_in_node (Some n)) (read ∙ leaf) in
+    let done : IsResolved rows work.plan plan = subst (λ rs. IsResolved rs work.plan plan) held resolved in
+    let same : after_all rows (edits_of (parts_of_plan work.plan)) ≡ rows = ap (after_all rows) (no_edits (parts_of_plan work.plan) looks) in
+    let stands : plan.rows.items ≡ rows = done.rows-are ∙ same in
+    let few : vec_len plan.later ≤ vec_len work.plan.asked = rw (done.later, none) (omega arith) in
+    let enough : is_small work.plan.least rows ≡ false = sym (ap (is_small plan.least) stands ∙ ap (λ least. is_small least rows) done.least) ∙ stays.1 in
+    let own : leaf_left work.plan.least work.plan.low rows ≡ record { pieces = (work.plan.low, rows) ∷ []; loose = [] } =
+    left_itself work.plan.least work.plan.low rows (subst (λ rs. 0 < length rs) stands stays.0) enough (subst (λ rs. length rs ≤ MOST_LEAF_ROWS) held most) in
+    record {
+      id = refl;
+      path = done.path;
+      low = done.low;
+      leaf = (rows, leaf);
+      few = few;
+      answers = done.answers;
+      outcome = rw (leaf, done.later, no_later, done.low, same) (sym own);
     }

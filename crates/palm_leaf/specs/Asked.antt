@@ -1,5 +1,6 @@
 -- Parts of a leaf with room for their answers.
-use Rattle.std.specs.Prelude.{◌≡◌, ℕ, ◌≤◌, List, [], Option, vec_capacity}
+use Rattle.std.specs.Prelude.{◌≡◌, ℕ, ◌≤◌, Bool, true, false, List, [], Option, vec_capacity}
+use Rattle.std.specs.List.{list_any}
 use Rattle.palm_base.specs.declared.row.Row.{Row}
 use Rattle.palm_route.specs.declared.part.Ask.{Ask}
 use Rattle.palm_route.specs.declared.part.Ask.TheVariants as ask
@@ -9,6 +10,17 @@ use Rattle.palm_leaf.specs.declared.answer.LeafAnswer.{LeafAnswer}
 use Rattle.palm_leaf.specs.declared.answer.LeafAnswer.TheVariants.{Old, Found}
 use Rattle.palm_leaf.specs.declared.answer.PartAnswer.{PartAnswer}
 use Rattle.palm_leaf.specs.declared.rows.Asked.{Asked}
+
+-- The ask is an edit: a Set or a Del. So a Set is one, and a look-up isn't.
+abbrev pub is_edit : Ask → Bool
+is_edit (ask.Set rate) = true
+is_edit ask.Del = true
+is_edit ask.Look = false
+is_edit (ask.List from to limit) = false
+
+-- One of the parts is an edit. So it is of a look-up and a Del, and not of two look-ups.
+abbrev pub has_edit : List Part → Bool
+has_edit parts = list_any (λ part. is_edit part.ask) parts
 
 -- The answer to an ask that an old rate and found rows make: the rows where it is a List's, and else the rate.
 abbrev pub answer_with : Ask → Option ℕ → List Row → LeafAnswer

@@ -1,9 +1,11 @@
 pub mod Answers
 pub mod Asked
 pub mod Ends
+pub mod Laws
 pub mod Lending
 pub mod Loads
 pub mod Routed
 pub mod Settling
+pub mod Spread
 pub mod Stage
 pub mod Worked

@@ -1,5 +1,5 @@
 -- The groups of a pass, and its leaves with their parts.
-use Rattle.std.specs.Prelude.{◌≡◌, ℕ, ◌≤◌, ◌==◌, if◌then◌else◌, List, [], ◌∷◌, map, sum_by, length, Option}
+use Rattle.std.specs.Prelude.{◌≡◌, ℕ, ◌==◌, if◌then◌else◌, List, [], ◌∷◌, map, sum_by, length, Option}
 use Rattle.std.specs.List.{AllByRecursion}
 use Rattle.palm_base.specs.Key.{IsKey}
 use Rattle.palm_node.specs.declared.id.NodeId.{NodeId}
@@ -25,14 +25,12 @@ abbrev pub HasKey : Part → Type 0
 HasKey part = GoesByKey part.key part.ask
 
 -- The groups are those of a pass: they are the groups of some parts on its leaves, whose edits are the pass's and go by the
--- keys of prefixes, and the leaves to which the pass routes something are theirs. There is a group at least: where nothing is
--- routed there is nothing to do.
+-- keys of prefixes, and the leaves to which the pass routes something are theirs.
 pub record IsRouted (p : Pass) (nodes : NodeId → Option Node) (shape : Shape) (groups : List Group) (parts : List Part) : Type 0 where
   pub groups-are : groups ≡ groups_of (leaves_at nodes shape) parts
   pub edits-are : p.edits ≡ edits_of parts
   pub routed-are : p.routed ≡ map (λ group. group.leaf) groups
   pub keys : AllByRecursion HasKey parts
-  pub some : 1 ≤ length groups
 
 -- How many parts the groups have. So a group of two and a group of one have three.
 abbrev pub parts_in : List Group → ℕ

@@ -8,7 +8,7 @@ ghost use Rattle.palm_base.specs.declared.row.Row.{Row};
 ghost use Rattle.palm_leaf.specs.Answers.{rows_in_node};
 ghost use Rattle.palm_leaf.specs.Worked.{low_and_rows, IsPlan, IsResolved, IsReady, HasRun};
 
-use crate::rows::{Asked, resolve};
+use crate::rows::{Asked, has_edit, resolve};
 use palm_arena::Lease;
 use palm_base::{MOST_LEAF_ROWS, Row};
 use palm_node::{Leaf, Node, Path, piece_size, pieces};
@@ -95,7 +95,8 @@ impl LeafPlan {
 pub fn resolve_parts(node: &Node, plan: &mut LeafPlan)
     requires leaf { (rows : List Row) × (node.now ≡ Node.Leaf rows) }
     requires plan { IsPlan plan.old }
-    ensures { IsResolved (rows_in_node (Some node.now)) plan.old plan.new }
+    ensures resolved { IsResolved (rows_in_node (Some node.now)) plan.old plan.new }
+    ensures few { length (rows_in_node (Some node.now)) ≤ MOST_LEAF_ROWS }
 {
     let Node::Leaf(leaf) = node else {
         unreachable!()
@@ -128,9 +129,15 @@ impl Job for LeafWork {
     ghost ran = { HasRun };
 
     fn run(&mut self) {
+        let edited = has_edit(&self.plan.asked);
         resolve_parts(self.lease.node(), &mut self.plan);
         if self.plan.stays() {
-            keep(&mut self.lease, &mut self.plan);
+            if edited {
+                keep(&mut self.lease, &mut self.plan);
+            } else {
+                // The leaf has the rows that it had, and few enough: it needn't be written.
+                self.plan.kept = true;
+            }
         }
     }
 }

@@ -126,7 +126,7 @@ pub fn change_leaves<R: Threads + Sync, G: Gate + Sync, L: Ledger>(
         rt,
         alloc,
         arena,
-        groups.into_vec(),
+        groups.into_list(),
         least,
         workers,
         gate,

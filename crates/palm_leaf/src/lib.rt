@@ -3,6 +3,7 @@
 #![tactic(auto)]
 
 mod answer;
+pub mod laws;
 mod leaf_work;
 mod leaves;
 mod lending;

@@ -5,7 +5,7 @@ ghost use Rattle.palm_base.specs.Table.{rate_at, put, without, lies_within, afte
 ghost use Rattle.palm_route.specs.Edits.{edits_of};
 ghost use Rattle.palm_leaf.specs.Routed.{HasKey};
 ghost use Rattle.palm_leaf.specs.Answers.{answers_in, answer_of, after_part};
-ghost use Rattle.palm_leaf.specs.Asked.{answered, part_of, IsOpen, FindsRoom};
+ghost use Rattle.palm_leaf.specs.Asked.{is_edit, has_edit, answered, part_of, IsOpen, FindsRoom};
 
 use palm_base::{Amount, Digits, Row, find_row};
 use palm_route::{Ask, Part};
@@ -82,6 +82,13 @@ fn list_range(rows: &[Row], from: u64, to: u64, limit: usize, found: &mut Vec<Ro
 }
 
 impl Asked {
+    // Whether the part is an edit.
+    fn is_edit(&self) -> bool
+        ensures { result ≡ is_edit self.now.part.ask }
+    {
+        matches!(&self.part.ask, Ask::Set(_) | Ask::Del)
+    }
+
     // Answers the part on the rows, for which there is room.
     fn answer(&mut self, rows: &[Row])
         requires table { IsTable rows.now }
@@ -139,6 +146,18 @@ impl Asked {
         self.answer(rows);
         self.edit(rows);
     }
+}
+
+/// Whether one of a leaf's parts is an edit.
+pub fn has_edit(asked: &[Asked]) -> bool
+    ensures { result ≡ has_edit (map part_of asked.now) }
+{
+    for one in asked {
+        if one.is_edit() {
+            return true;
+        }
+    }
+    false
 }
 
 /// Resolves a leaf's parts on its rows in their order, for each of which there is room.
