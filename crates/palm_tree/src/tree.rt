@@ -17,9 +17,9 @@ use std::sync::ledger::{Blank, Ledger};
 /// they stand at.
 #[derive(Debug, Drop)]
 pub struct Tree {
-    pub(crate) arena: Arena,
-    pub(crate) shape: Shape,
-    pub(crate) rows: u64,
+    pub arena: Arena,
+    pub shape: Shape,
+    pub rows: u64,
 }
 
 impl Model for Tree {
