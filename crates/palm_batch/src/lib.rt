@@ -1,9 +1,15 @@
-//! Batches of calls on a plain table: a sorted list of rows, which stands in for the tree.
+//! Batches of calls: on a plain table, a sorted list of rows that stands in for the tree, and the pass of a batch over the tree.
 #![tactic(auto)]
 
+mod pass;
 mod plain;
+mod replies;
 
+pub use pass::{Passed, run_pass};
 pub use plain::{MOST_CALLS, PlainTable, run_plain};
+pub use replies::join_answers;
 
+#[cfg(test)]
+mod stage_tests;
 #[cfg(test)]
 mod tests;

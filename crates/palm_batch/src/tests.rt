@@ -1,8 +1,13 @@
-ghost use Rattle.std.specs.Prelude.{◌≤◌, length, IfOk};
+ghost use Rattle.std.specs.Prelude.{◌≡◌, ◌<◌, ◌≤◌, length, IfOk};
 ghost use Rattle.palm_base.specs.History.{ArePlain};
+ghost use Rattle.palm_base.specs.Key.{key};
+ghost use Rattle.palm_leaf.specs.declared.answer.LeafAnswer.TheVariants.{Old};
 
 use super::*;
+use crate::replies::join_answers;
 use palm_base::{Amount, Call, Digits, Entry};
+use palm_leaf::{LeafAnswer, PartAnswer};
+use palm_route::{Ask, Part};
 use std::alloc::Global;
 use std::process::Abort;
 use std::test::Fail;
@@ -98,5 +103,59 @@ fn each_call_is_answered_on_the_table_that_the_calls_before_it_leave(
         "[Gone(Amount { value: 1 }), Absent, Absent, Value(Amount { value: 8 }), Value(Amount { value: 3 })]"
     );
     assert_eq!(rt; table.row_count(), 3);
+    Ok(())
+}
+
+fn entry(call: Call) -> Entry
+    ensures { result ≡ record { caller = 0; place = 0; call = call } }
+{
+    Entry {
+        caller: 0,
+        place: 0,
+        call,
+    }
+}
+
+fn part_answer(entry: u64, key: u64, ask: Ask, rate: Option<Amount>) -> PartAnswer
+    ensures { result ≡ record { part = record { entry = entry; number = 0; key = key; ask = ask }; answer = Old rate } }
+{
+    PartAnswer {
+        part: Part {
+            entry,
+            number: 0,
+            key,
+            ask,
+        },
+        answer: LeafAnswer::Old(rate),
+    }
+}
+
+fn assert_before(rt: &impl Abort, low: &Digits, high: &Digits)
+    ensures { key low.now < key high.now }
+{
+    assert!(rt; low.key() < high.key());
+}
+
+// The leaf from 44 on answers the first entry and the last, after the leaf before it has answered the one between.
+#[test]
+fn replies_stand_at_their_entries_whatever_leaf_answers(rt: HostRuntime) -> Result<(), Fail> {
+    let alloc = rt.alloc();
+    let low = digits(&rt, "2");
+    let high = digits(&rt, "44");
+    assert_before(&rt, &low, &high);
+    let rate = Amount::new(5).expect(&rt, "a rate");
+    let batch = [
+        entry(Call::Set { prefix: high, rate }),
+        entry(Call::Get { prefix: low }),
+        entry(Call::Get { prefix: high }),
+    ];
+    let answers = [
+        part_answer(1, low.key(), Ask::Look, None),
+        part_answer(0, high.key(), Ask::Set(rate), None),
+        part_answer(2, high.key(), Ask::Look, Some(rate)),
+    ];
+    let replies = join_answers(alloc, &batch, &answers)?;
+    let told = format!(in alloc; "{replies:?}")?;
+    assert_eq!(rt; told.as_str(), "[New, Absent, Value(Amount { value: 5 })]");
     Ok(())
 }

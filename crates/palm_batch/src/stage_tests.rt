@@ -1,0 +1,339 @@
+// The stages of a batch on trees, with workers of all numbers.
+ghost use Rattle.std.specs.Prelude.{◌≡◌, ◌<◌, ◌≤◌};
+ghost use Rattle.palm_base.specs.Table.{IsTable};
+ghost use Rattle.palm_share.specs.declared.share.TheConstants.{MOST_WORKERS};
+
+use crate::pass::{change_levels, route};
+use palm_base::{Amount, Call, Digits, Entry, Limit, NoMemory, Row, RowList, Steps};
+use palm_leaf::{LeafAnswer, LeafOutcome, change_leaves};
+use palm_node::Changes;
+use palm_route::{Groups, PartList};
+use palm_share::{Gate, MOST_WORKERS, OpenGate, Who};
+use palm_tree::Tree;
+use std::alloc::Global;
+use std::marker::Brand;
+use std::process::Abort;
+use std::sync::atomic::{AtomicBool, AtomicU64, Ordering};
+use std::sync::ledger::{Blank, Ledger};
+use std::test::Fail;
+use std::thread::Threads;
+
+fn digits(rt: &impl Abort, text: &str) -> Digits {
+    Digits::read(text.as_bytes()).expect(rt, "a prefix")
+}
+
+fn amount(rt: &impl Abort, rate: u64) -> Amount {
+    Amount::new(rate).expect(rt, "a rate")
+}
+
+fn set(rt: &impl Abort, prefix: &str, rate: u64) -> Call {
+    let prefix = digits(rt, prefix);
+    let rate = amount(rt, rate);
+    Call::Set { prefix, rate }
+}
+
+fn del(rt: &impl Abort, prefix: &str) -> Call {
+    let prefix = digits(rt, prefix);
+    Call::Del { prefix }
+}
+
+fn get(rt: &impl Abort, prefix: &str) -> Call {
+    let prefix = digits(rt, prefix);
+    Call::Get { prefix }
+}
+
+fn list(rt: &impl Abort, from: &str, to: &str, limit: u32) -> Call {
+    Call::List {
+        from: digits(rt, from),
+        to: digits(rt, to),
+        limit: Limit::new(limit).expect(rt, "a limit"),
+    }
+}
+
+fn entries(alloc: Global, calls: &[Call]) -> Result<Vec<Entry>, NoMemory> {
+    let mut entries = Vec::with_capacity(alloc, calls.len())?;
+    for (place, call) in calls.iter().enumerate() {
+        entries.push(Entry {
+            caller: 0,
+            place: place as u64,
+            call: *call,
+        })?;
+    }
+    Ok(entries)
+}
+
+fn assert_rise(rt: &impl Abort, rows: &[Row])
+    ensures { IsTable rows.now }
+{
+    for i in 1..rows.len() {
+        assert!(rt; rows[i - 1].prefix.key() < rows[i].prefix.key());
+    }
+}
+
+// The tree that is built from the rows of these numbers, each at itself as its rate.
+fn built(rt: &impl Abort, alloc: Global, from: u64, to: u64) -> Result<Tree, Fail> {
+    let mut rows = RowList::new(alloc);
+    for number in from..=to {
+        let text = format!(in alloc; "{number}")?;
+        let prefix = digits(rt, text.as_str());
+        let rate = amount(rt, number);
+        rows.push(Row { prefix, rate })?;
+    }
+    assert_rise(rt, rows.as_slice());
+    Ok(Tree::build(alloc, &rows)?)
+}
+
+// The touched leaves of a batch on a tree.
+fn touched<R: Threads + Sync>(
+    rt: &R,
+    alloc: Global,
+    tree: &Tree,
+    batch: &[Entry],
+    workers: u32,
+) -> Result<Groups, NoMemory>
+    requires some { 1 ≤ workers }
+    requires few { workers ≤ MOST_WORKERS }
+{
+    route(
+        rt,
+        alloc,
+        &tree.arena,
+        tree.shape,
+        batch,
+        workers,
+        &OpenGate,
+    )
+}
+
+// What the leaves of a tree answer a batch, and the changes below its root. The gate is that of the levels.
+fn staged<R: Threads + Sync, G: Gate + Sync, L: Ledger>(
+    rt: &R,
+    alloc: Global,
+    tree: Tree,
+    batch: &[Entry],
+    workers: u32,
+    gate: &G,
+    blank: Blank,
+) -> Result<LeafOutcome, NoMemory>
+    requires name { blank.name ≡ L.name }
+    requires parts { blank.parts ≡ L.parts }
+    requires blank { 0 < blank.parts }
+    requires some { 1 ≤ workers }
+    requires few { workers ≤ MOST_WORKERS }
+{
+    let mut steps = Steps::<L>::new(blank);
+    let Tree {
+        mut arena,
+        shape,
+        ..
+    } = tree;
+    arena.begin();
+    let groups = route(rt, alloc, &arena, shape, batch, workers, &OpenGate)?;
+    let LeafOutcome { answers, changes } = change_leaves(
+        rt, alloc, &mut arena, shape, groups, workers, &OpenGate, &mut steps,
+    )?;
+    let changes = change_levels(
+        rt, alloc, &mut arena, shape, changes, workers, gate, &mut steps,
+    )?;
+    Ok(LeafOutcome { answers, changes })
+}
+
+// The same, with a counter of its own.
+fn outcome_of<R: Threads + Sync, G: Gate + Sync>(
+    rt: &R,
+    alloc: Global,
+    tree: Tree,
+    batch: &[Entry],
+    workers: u32,
+    gate: &G,
+) -> Result<LeafOutcome, NoMemory>
+    requires some { 1 ≤ workers }
+    requires few { workers ≤ MOST_WORKERS }
+{
+    staged::<R, G, Brand>(rt, alloc, tree, batch, workers, gate, Blank::new(1))
+}
+
+const MARK: u64 = u64::MAX;
+
+// The entries of the parts of each group, with a mark behind each group.
+fn entries_of(alloc: Global, groups: Groups) -> Result<Vec<u64>, NoMemory> {
+    let mut told = Vec::new(alloc);
+    for group in groups.into_list() {
+        append_entries(&group.parts, &mut told)?;
+        told.push(MARK)?;
+    }
+    Ok(told)
+}
+
+fn append_entries(parts: &PartList, told: &mut Vec<u64>) -> Result<(), NoMemory> {
+    for part in parts.as_slice() {
+        told.push(part.entry)?;
+    }
+    Ok(())
+}
+
+#[test]
+fn parts_come_together_by_leaf(rt: HostRuntime) -> Result<(), Fail> {
+    let alloc = rt.alloc();
+    let tree = built(&rt, alloc, 10, 26)?;
+    let calls = [get(&rt, "26"), get(&rt, "10"), list(&rt, "18", "19", 5)];
+    let batch = entries(alloc, &calls)?;
+    for workers in [1, 2, 3, MOST_WORKERS] {
+        let groups = touched(&rt, alloc, &tree, &batch, workers)?;
+        let told = entries_of(alloc, groups)?;
+        assert!(rt;
+            told.as_slice() == [1, 2, MARK, 0, 2, MARK].as_slice(),
+            "{workers} workers"
+        );
+    }
+    Ok(())
+}
+
+// What an answer tells: the rate that was there, or none, or how many rows were found.
+fn told(answer: &LeafAnswer) -> (Option<u64>, Option<usize>) {
+    match answer {
+        LeafAnswer::Old(rate) => (rate.map(|rate| rate.get()), None),
+        LeafAnswer::Found(rows) => (None, Some(rows.len())),
+    }
+}
+
+#[test]
+fn leaves_answer_each_part_on_the_rows_that_earlier_parts_leave(
+    rt: HostRuntime,
+) -> Result<(), Fail> {
+    let alloc = rt.alloc();
+    let edits = [
+        del(&rt, "10"),
+        del(&rt, "11"),
+        del(&rt, "26"),
+        list(&rt, "0", "999999999999999", 100),
+    ];
+    let edited = [
+        (Some(10), None),
+        (Some(11), None),
+        (None, Some(7)),
+        (Some(26), None),
+        (None, Some(7)),
+    ];
+    let one = [
+        set(&rt, "44", 5),
+        get(&rt, "44"),
+        set(&rt, "44", 6),
+        del(&rt, "44"),
+        get(&rt, "44"),
+    ];
+    let set_once = [
+        (None, None),
+        (Some(5), None),
+        (Some(5), None),
+        (Some(6), None),
+        (None, None),
+    ];
+    for workers in [1, 3, MOST_WORKERS] {
+        let loose = assert_answers(&rt, alloc, &edits, &edited, workers)?;
+        assert_eq!(rt; loose, 14, "{workers} workers");
+        let loose = assert_answers(&rt, alloc, &one, &set_once, workers)?;
+        assert_eq!(rt; loose, 0, "{workers} workers");
+    }
+    Ok(())
+}
+
+// On the tree of 10 to 26 the calls are answered so. Gives the number of loose rows.
+fn assert_answers<R: Threads + Sync + Abort>(
+    rt: &R,
+    alloc: Global,
+    calls: &[Call],
+    expected: &[(Option<u64>, Option<usize>)],
+    workers: u32,
+) -> Result<usize, Fail>
+    requires some { 1 ≤ workers }
+    requires few { workers ≤ MOST_WORKERS }
+{
+    let tree = built(rt, alloc, 10, 26)?;
+    let batch = entries(alloc, calls)?;
+    let outcome = outcome_of(rt, alloc, tree, &batch, workers, &OpenGate)?;
+    assert_eq!(rt; outcome.answers.len(), expected.len());
+    for (one, expected) in outcome.answers.as_slice().iter().zip(expected) {
+        assert!(rt; told(&one.answer) == *expected, "{workers} workers");
+    }
+    Ok(outcome.changes.loose.len())
+}
+
+// The number of pieces of each change.
+fn piece_counts(alloc: Global, changes: &Changes) -> Result<Vec<usize>, NoMemory> {
+    let mut counts = Vec::new(alloc);
+    for change in changes.nodes.as_slice() {
+        counts.push(change.pieces.len())?;
+    }
+    Ok(counts)
+}
+
+// The prefixes 100 to 124 begin with 10, 11 and 12, so that they go to the first leaf of the tree of 10 to 26.
+#[test]
+fn a_leaf_of_34_rows_becomes_three(rt: HostRuntime) -> Result<(), Fail> {
+    let alloc = rt.alloc();
+    let mut calls = Vec::new(alloc);
+    for number in 100..125 {
+        let text = format!(in alloc; "{number}")?;
+        calls.push(set(&rt, text.as_str(), number))?;
+    }
+    let batch = entries(alloc, &calls)?;
+    for workers in [1, 3, MOST_WORKERS] {
+        let tree = built(&rt, alloc, 10, 26)?;
+        let outcome = outcome_of(&rt, alloc, tree, &batch, workers, &OpenGate)?;
+        let counts = piece_counts(alloc, &outcome.changes)?;
+        assert!(rt; counts.as_slice() == [3].as_slice(), "{workers} workers");
+    }
+    Ok(())
+}
+
+// Two workers that each raise a flag at their first turn and look for the other's, for as long as it takes, or until one
+// gives up.
+#[derive(Drop)]
+struct Flags {
+    first: AtomicBool,
+    second: AtomicBool,
+    gave_up: AtomicU64,
+}
+
+impl Flags {
+    fn meet(&self, mine: &AtomicBool, theirs: &AtomicBool) {
+        mine.store(true, Ordering::SeqCst);
+        for _ in 0..100_000_000u32 {
+            if theirs.load(Ordering::SeqCst) {
+                return;
+            }
+        }
+        self.gave_up.fetch_add(1, Ordering::SeqCst);
+    }
+}
+
+impl Gate for Flags {
+    fn pass(&self, who: Who, _turn: u64) {
+        match who {
+            Who::Worker(0) => self.meet(&self.first, &self.second),
+            Who::Worker(1) => self.meet(&self.second, &self.first),
+            _ => {}
+        }
+    }
+}
+
+// The tree of 100 to 499 has 25 full leaves under two nodes. Two Sets split its first leaf and its last, so that both nodes
+// are made anew.
+#[test]
+fn two_workers_make_two_nodes_anew_beside_each_other(rt: HostRuntime) -> Result<(), Fail> {
+    let alloc = rt.alloc();
+    let gate = Flags {
+        first: AtomicBool::new(false),
+        second: AtomicBool::new(false),
+        gave_up: AtomicU64::new(0),
+    };
+    let tree = built(&rt, alloc, 100, 499)?;
+    assert_eq!(rt; tree.levels(), 3);
+    let batch = entries(alloc, &[set(&rt, "1000", 1), set(&rt, "4990", 2)])?;
+    let outcome = outcome_of(&rt, alloc, tree, &batch, 2, &gate)?;
+    let counts = piece_counts(alloc, &outcome.changes)?;
+    assert!(rt; counts.as_slice() == [1, 1].as_slice());
+    assert_eq!(rt; gate.gave_up.load(Ordering::SeqCst), 0);
+    Ok(())
+}
