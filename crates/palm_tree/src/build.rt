@@ -16,7 +16,7 @@ ghost use Rattle.palm_arena.specs.ArenaState.{NoneLent};
 ghost use Rattle.palm_arena.specs.Reads.{map_of, IsWhole};
 ghost use Rattle.palm_node.specs.InnerNode.{Rise, later_lows};
 ghost use Rattle.palm_tree.specs.Levels.{IsLevel, IsRaised};
-ghost use Rattle.palm_tree.specs.TreeValue.{tree_of};
+ghost use Rattle.palm_tree.specs.TreeValue.{tree_in, tree_of};
 
 use crate::tree::Tree;
 use palm_arena::{Arena, Shape};
@@ -161,7 +161,7 @@ impl Tree {
     /// grows as the rows do. `NoMemory` where room was refused.
     pub fn build(alloc: Global, rows: &RowList) -> Result<Tree, NoMemory>
         requires { IsTable rows.now }
-        ensures { IfOk result (λ tree. tree ≡ batch_tree (zero, []) (map set_of rows.now)) }
+        ensures { IfOk result (λ tree. tree_in tree ≡ batch_tree (zero, []) (map set_of rows.now)) }
     {
         if rows.is_empty() {
             return Tree::new(alloc);

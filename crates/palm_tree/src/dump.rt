@@ -5,6 +5,7 @@ ghost use Rattle.palm_base.specs.Extends.{Extends};
 ghost use Rattle.palm_base.specs.Key.{IsKey};
 ghost use Rattle.palm_base.specs.Shape.{leaf_line, separator_text, shape_text};
 ghost use Rattle.palm_arena.specs.Reads.{map_of};
+ghost use Rattle.palm_tree.specs.TreeValue.{tree_in};
 ghost use Rattle.palm_tree.specs.Walk.{inner_text, nodes_text, ids_below, levels_text, IsPrintable, ArePrintable};
 
 use crate::tree::Tree;
@@ -101,7 +102,7 @@ fn append_levels(arena: &Arena, shape: Shape, out: &mut Vec<u8>) -> Result<(), N
 }
 
 fn append_shape(tree: &Tree, out: &mut Vec<u8>) -> Result<(), NoMemory>
-    ensures ok { OnOk result (out.new.items ≡ out.old.items ++ shape_text tree.now) }
+    ensures ok { OnOk result (out.new.items ≡ out.old.items ++ shape_text (tree_in tree.now)) }
     ensures kept { Extends out.old.items out.new.items }
 {
     append(b"tree ", out)?;
@@ -116,7 +117,7 @@ impl Tree {
     /// Appends the text of the tree's shape: how many levels and rows it has, and its nodes, level by level. `out` is
     /// unchanged where memory is refused. Beside the text it keeps no more than the ids of two levels.
     pub fn dump(&self, out: &mut Vec<u8>) -> Result<(), NoMemory>
-        ensures ok { OnOk result (out.new.items ≡ out.old.items ++ shape_text self.now) }
+        ensures ok { OnOk result (out.new.items ≡ out.old.items ++ shape_text (tree_in self.now)) }
         ensures err { OnErr result (out.new.items ≡ out.old.items) }
     {
         let before = out.len();

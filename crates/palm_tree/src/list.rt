@@ -4,6 +4,7 @@ ghost use Rattle.palm_base.specs.Key.{key};
 ghost use Rattle.palm_base.specs.Table.{lies_within};
 ghost use Rattle.palm_base.specs.Tree.{rows_of};
 ghost use Rattle.palm_tree.specs.Below.{HasNodeBelow, rows_below};
+ghost use Rattle.palm_tree.specs.TreeValue.{tree_in};
 
 use crate::tree::Tree;
 use palm_arena::Arena;
@@ -67,7 +68,7 @@ impl Tree {
     /// where room for them was refused. It goes down once, to where the range begins, and then along its leaves, to where
     /// the range ends or the limit is reached.
     pub fn list(&self, from: &Digits, to: &Digits, limit: Limit) -> Result<RowList, NoMemory>
-        ensures { IfOk result (λ rows. rows ≡ take limit (filter (lies_within (key from.now) (key to.now)) (rows_of self.now))) }
+        ensures { IfOk result (λ rows. rows ≡ take limit (filter (lies_within (key from.now) (key to.now)) (rows_of (tree_in self.now)))) }
     {
         let range = Range {
             from: from.key(),

@@ -4,7 +4,7 @@ ghost use Rattle.std.proofs.Common.{zero};
 ghost use Rattle.palm_base.specs.Key.{key};
 ghost use Rattle.palm_base.specs.Table.{rate_at, best_for};
 ghost use Rattle.palm_base.specs.Tree.{rows_of, levels_of};
-ghost use Rattle.palm_tree.specs.TreeValue.{leaf_alone};
+ghost use Rattle.palm_tree.specs.TreeValue.{leaf_alone, tree_in};
 
 use palm_arena::{Arena, Shape};
 use palm_base::{Amount, Digits, NoMemory, Row, Steps};
@@ -13,8 +13,8 @@ use std::alloc::Global;
 use std::marker::{Brand, Model};
 use std::sync::ledger::{Blank, Ledger};
 
-/// A lawful B+ tree of a table's rows, with no batch under way. Contracts see its value: its nodes, without the ids that
-/// they stand at.
+/// A lawful B+ tree of a table's rows, with no batch under way. Contracts see its nodes at their ids, its shape, and the ids
+/// that the latest batch moved. `tree_in` is the tree that they are, without the ids.
 #[derive(Debug, Drop)]
 pub struct Tree {
     pub arena: Arena,
@@ -23,15 +23,15 @@ pub struct Tree {
 }
 
 impl Model for Tree {
-    ghost use Rattle.palm_base.specs.Tree.{Tree};
-    ghost use Rattle.palm_tree.specs.TreeCode.{tree_code};
-    ghost use Rattle.palm_tree.specs.TreeValue.{tree_of, HoldsTree};
+    ghost use Rattle.palm_tree.specs.TreeValue.{TreeState, HoldsTree};
 
-    ghost Value = { Tree };
+    ghost Value = { TreeState };
 
-    ghost coded = { tree_code };
-
-    ghost view = { λ a. tree_of a.arena.places a.shape };
+    ghost view = { λ a. record {
+      places = a.arena.places;
+      shape = a.shape;
+      moved = a.arena.moved;
+    } };
 
     ghost invariant = { λ a. HoldsTree a.arena a.shape a.rows };
 }
@@ -54,7 +54,7 @@ fn one_leaf<L: Ledger>(alloc: Global, blank: Blank) -> Result<(Arena, NodeId), N
 impl Tree {
     /// The empty tree: a leaf of no rows. `NoMemory` where the room for it was refused.
     pub fn new(alloc: Global) -> Result<Tree, NoMemory>
-        ensures { IfOk result (λ tree. tree ≡ (zero, [])) }
+        ensures { IfOk result (λ tree. tree_in tree ≡ (zero, [])) }
     {
         let (arena, root) = one_leaf::<Brand>(alloc, Blank::new(1))?;
         let shape = Shape { root, levels: 1 };
@@ -67,7 +67,7 @@ impl Tree {
 
     /// The rate of a prefix. `None` exactly where the table has no row of it. It reads one node on each level.
     pub fn get(&self, prefix: &Digits) -> Option<Amount>
-        ensures { result ≡ rate_at (key prefix.now) (rows_of self.now) }
+        ensures { result ≡ rate_at (key prefix.now) (rows_of (tree_in self.now)) }
     {
         let key = prefix.key();
         let mut id = self.shape.root;
@@ -87,7 +87,7 @@ impl Tree {
     /// begins the number. It looks the fronts of the number up, from the longest down, and stops at the first that it
     /// finds.
     pub fn longest(&self, number: &Digits) -> Option<Row>
-        ensures { result ≡ best_for number.now (rows_of self.now) }
+        ensures { result ≡ best_for number.now (rows_of (tree_in self.now)) }
     {
         if self.rows == 0 {
             return None;
@@ -105,14 +105,14 @@ impl Tree {
 
     /// How many rows the table has.
     pub fn row_count(&self) -> u64
-        ensures { result ≡ length (rows_of self.now) }
+        ensures { result ≡ length (rows_of (tree_in self.now)) }
     {
         self.rows
     }
 
     /// How many levels the tree has. A leaf alone is one level.
     pub fn levels(&self) -> u32
-        ensures { result ≡ levels_of self.now }
+        ensures { result ≡ levels_of (tree_in self.now) }
     {
         self.shape.levels
     }

@@ -4,7 +4,7 @@ use Rattle.std.specs.Fmt.{decimal}
 use Rattle.palm_base.specs.Tree.{Tree, levels_of, rows_of}
 use Rattle.palm_base.specs.Shape.{level_lines, shape_text}
 use Rattle.palm_arena.specs.Reads.{map_of}
-use Rattle.palm_tree.specs.TreeValue.{tree_of}
+use Rattle.palm_tree.specs.TreeValue.{TreeState, tree_of, tree_in}
 use Rattle.palm_tree.proofs.Values.{value_reads}
 use Rattle.palm_tree.proofs.LevelTexts.{tree_text, tree_printable, five_pieces}
 use Rattle.palm_tree.proofs.dump.append_shape.Goals as goal
@@ -32,5 +32,5 @@ returns-clause-ok c =
     ∙ five_pieces c.args.out.now.items c.append.new.out.items c.append_number.new.out.items c.append-2.new.out.items c.append_number-2.new.out.items c.append-3.new.out.items
     (codes "tree ") (decimal (levels_of tree)) (codes " ") (decimal (length (rows_of tree))) (codes "\n") (level_lines tree.0 (tree.1 ∷ []))
     c.in_ok-append.ensures.ok second c.in_ok-append-2.ensures.ok fourth c.in_ok-append-3.ensures.ok
-    ∙ ap (λ (t : Tree). c.args.out.now.items ++ shape_text t) c.tree.view_is in
+    ∙ ap (λ (s : TreeState). c.args.out.now.items ++ shape_text (tree_in s)) c.tree.view_is in
     subst (λ (l : List ℕ). OnOk c.append_levels.result (c.append_levels.new.out.items ≡ l)) whole c.append_levels.ensures.ok

@@ -1,5 +1,6 @@
 use Rattle.std.proofs.Common.{Some, IsSome, slice_get, refl, sym, ap, subst, arith, ◌∙◌}
 use Rattle.palm_arena.specs.Reads.{map_of}
+use Rattle.palm_tree.specs.TreeValue.{tree_in}
 use Rattle.palm_tree.proofs.Standing.{stands_first, stands_inner, stands_leaf, stands_next}
 use Rattle.palm_tree.proofs.tree.Tree.get.Goals as goal
 
@@ -47,5 +48,5 @@ returns c =
     let leaf = c.in-Leaf.is in
     let got = c.get.ensures in
     let key = c.key-key.ensures.key in
-    let view = c.self.view_is in
+    let view = ap tree_in c.self.view_is in
     cc

@@ -3,6 +3,7 @@ use Rattle.palm_base.specs.Table.{lies_within}
 use Rattle.palm_base.specs.Tree.{rows_of}
 use Rattle.palm_base.specs.declared.row.Row.{Row}
 use Rattle.palm_tree.specs.Below.{rows_below}
+use Rattle.palm_tree.specs.TreeValue.{TreeState, tree_in}
 use Rattle.palm_tree.proofs.Children.{root_below, rows_below_root}
 use Rattle.palm_tree.proofs.tree.Tree.list.Goals as goal
 
@@ -13,7 +14,7 @@ pub returns : goal.returns
 returns c =
     let inside = c.self.inside in
     let below = rows_below inside.arena.places (inside.shape.levels - 1) inside.shape.root in
-    let all = rows_below_root inside.arena.places inside.shape ∙ ap rows_of c.self.view_is in
+    let all = rows_below_root inside.arena.places inside.shape ∙ ap (λ (s : TreeState). rows_of (tree_in s)) c.self.view_is in
     rw (sym c.key.ensures.key, sym c.key-2.ensures.key, sym c.get.ensures.value, sym all)
     (c.in_ok-append_below.ensures.ok
     ∙ ap (λ (l : List Row). take c.get.result (l ++ filter (lies_within c.key.result c.key-2.result) below)) c.new-rows.ensures)
