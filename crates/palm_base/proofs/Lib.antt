@@ -32,6 +32,7 @@ pub mod RisingTables
 pub mod RowPlaces
 pub mod RowSearch
 pub mod SameTables
+pub mod SetLevels
 pub mod Sets
 pub mod SoundNodes
 pub mod TableSplits

@@ -51,7 +51,7 @@ sets_grow rows (call ∷ calls) sets =
     let rest = sets_grow (after rows call) calls sets.1 in
     omega arith
 
-some_pieces : {X Y : Type 0} (width : ℕ) (low : X → ℕ) (node : List X → Y) (first : ℕ) (items : List X) → 0 < width → 0 < length items
+pub some_pieces : {X Y : Type 0} (width : ℕ) (low : X → ℕ) (node : List X → Y) (first : ℕ) (items : List X) → 0 < width → 0 < length items
     → 0 < length (with_lows low node first (cut width items))
 some_pieces width low node first items wide some = by (cut width items) (pieces_join width items wide)
   where
@@ -69,7 +69,7 @@ SetsHold n = (l h low : ℕ) (node : Subtree n) (edits : List Call) → Sound n 
 filter_sets : (test : Call → Bool) (edits : List Call) → AllByRecursion IsSet edits → AllByRecursion IsSet (filter test edits)
 filter_sets test = every_filter IsSet IsSet test (λ edit set passes. set)
 
-below_sets : (n : ℕ) → SetsHold n → (l h : ℕ) (children : List (ℕ × Subtree n)) (edits : List Call) → InOrder n l h children
+pub below_sets : (n : ℕ) → SetsHold n → (l h : ℕ) (children : List (ℕ × Subtree n)) (edits : List Call) → InOrder n l h children
     → AllByRecursion IsSet edits
     → ((below n (pass n) children edits).loose ≡ []) × (length children ≤ length (below n (pass n) children edits).pieces)
 below_sets n law l h [] edits chain sets = (refl, omega arith)
