@@ -24,7 +24,7 @@ use Rattle.palm_route.specs.Parts.{lows_of, parts_of}
 use Rattle.palm_leaf.specs.Answers.{answers_in, rows_at}
 use Rattle.palm_leaf.specs.Laws.{IsForRate}
 use Rattle.palm_leaf.specs.Routed.{HasKey}
-use Rattle.palm_leaf.proofs.LeavesAnswer.{the_leaves_answer}
+use Rattle.palm_leaf.proofs.LeavesAnswer.{the_leaves_answer_rates}
 use Rattle.palm_batch.specs.Replies.{AreAnswers}
 
 is_key : (prefix : List ℕ) → IsPrefix prefix → IsKey (key prefix)
@@ -49,4 +49,4 @@ pub leaves_answer_batch : (nodes : NodeId → Option Node) (shape : Shape) (tree
     (flat_map (λ group. answers_in (rows_at nodes group.leaf) group.parts) (groups_of (leaves_at nodes shape) (parts_of (leaves_at nodes shape) 0 batch)))
 leaves_answer_batch nodes shape tree batch read lawful plain prefixes =
     let parts = plain_parts (leaves_at nodes shape) 0 batch (recursion_from_All (λ entry. IsPlain entry.call) batch plain) prefixes in
-    the_leaves_answer nodes shape tree (parts_of (leaves_at nodes shape) 0 batch) read lawful parts.0 parts.1
+    the_leaves_answer_rates nodes shape tree (parts_of (leaves_at nodes shape) 0 batch) read lawful parts.0 parts.1

@@ -1,13 +1,13 @@
--- The answers of the groups of parts are those of the whole table, spread over the leaves.
+-- The answers of the groups of parts go by the rows of the whole table, spread over the leaves.
 use Rattle.std.proofs.Common.{◌≡◌, ℕ, zero, suc, ◌≤◌, ltb, leb, List, [], ◌∷◌, ◌++◌, length, drop, refl, sym, ap, ◌∙◌, subst, arith, Some}
 use Rattle.std.specs.Prelude.{Option}
 use Rattle.std.specs.List.{filter, flat_map, AllByRecursion}
 use Rattle.std.proofs.lemmas.List.{append-nil}
 use mathlib.Core.List.{map-append}
 use Rattle.palm_base.proofs.Every.{every_append}
-use Rattle.palm_base.specs.Tree.{Subtree, rows_in}
+use Rattle.palm_base.specs.Tree.{Subtree, rows_in, rows_of}
 use Rattle.palm_base.specs.Lawful.{Root, InOrder}
-use Rattle.palm_base.specs.Pass.{goes_left, goes_right}
+use Rattle.palm_base.specs.Pass.{goes_left, goes_right, rows_under}
 use Rattle.palm_base.specs.declared.call.Call.{Call}
 use Rattle.palm_node.specs.declared.id.NodeId.{NodeId}
 use Rattle.palm_node.specs.declared.node.Node.{Node}
@@ -25,13 +25,13 @@ use Rattle.palm_route.specs.Parts.{lows_of}
 use Rattle.palm_route.specs.declared.part.Group.{Group}
 use Rattle.palm_route.specs.declared.part.Part.{Part}
 use Rattle.palm_leaf.specs.Answers.{answers_in, rows_at, rows_in_node}
-use Rattle.palm_leaf.specs.Laws.{IsForRate, TheLeavesAnswer}
+use Rattle.palm_leaf.specs.Laws.{TheLeavesAnswer, TheLeavesAnswerRates}
 use Rattle.palm_leaf.specs.Loads.{LeafLoad, load_group}
 use Rattle.palm_leaf.specs.Routed.{HasKey}
 use Rattle.palm_leaf.specs.Spread.{spread}
 use Rattle.palm_leaf.specs.declared.answer.PartAnswer.{PartAnswer}
 use Rattle.palm_leaf.proofs.Loads.{held_node, leaves_node, loads_of_children, loads_under, root_matches}
-use Rattle.palm_leaf.proofs.TableAnswers.{load_answers, loads_lows, children_answer, nodes_answer}
+use Rattle.palm_leaf.proofs.TableAnswers.{spread_answers, whole_range, load_answers, loads_lows, children_answer, nodes_answer, rates_in_range}
 
 -- ---- the leaves under a node beside their loads
 
@@ -94,20 +94,22 @@ loads_answer nodes (load ∷ loads) held =
 
 -- ---- the leaves of a tree
 
-root_answers : (n high : ℕ) (placed : Placed n) (parts : List Part) → AllByRecursion HasKey parts → AllByRecursion IsForRate parts → Root n high (value_in n placed.1)
+root_answers : (n high : ℕ) (placed : Placed n) (parts : List Part) → AllByRecursion HasKey parts → Root n high (value_in n placed.1)
     → let loads = loads_under n (record { path = []; low = 0; place = placed; edits = [] }) 0 parts in
-    flat_map load_answers loads ≡ spread (λ a. a.part.key) (drop 1 (loads_lows loads)) (answers_in (rows_in n (value_in n placed.1)) parts)
-root_answers zero high placed parts keys rates root = append-nil (answers_in placed.1 parts)
-root_answers (suc n) high placed parts keys rates root = some placed.1 root.0.0 root.2
+    flat_map load_answers loads ≡ spread_answers (drop 1 (loads_lows loads)) (rows_in n (value_in n placed.1)) parts
+root_answers zero high placed parts keys root = append-nil (answers_in placed.1 parts) ∙ sym (whole_range placed.1 parts)
+root_answers (suc n) high placed parts keys root = some placed.1 root.0.0 root.2
   where
     some : (children : List (ℕ × Placed n)) → 2 ≤ length (values n children) → InOrder n 0 high (values n children)
         → let loads = loads_of_children n (loads_under n) [] placed.0 0 0 children [] parts in
-        flat_map load_answers loads ≡ spread (λ a. a.part.key) (drop 1 (loads_lows loads)) (answers_in (rows_in (suc n) (value_in (suc n) children)) parts)
+        flat_map load_answers loads ≡ spread_answers (drop 1 (loads_lows loads)) (rows_in (suc n) (value_in (suc n) children)) parts
     some [] many order = absurd (omega arith)
-    some (child ∷ children) many order = (children_answer n (nodes_answer n) [] placed.0 0 0 high child children [] parts keys rates order).answers
+    some (child ∷ children) many order =
+        let all = children_answer n (nodes_answer n) [] placed.0 0 0 high child children [] parts keys order in
+        all.answers ∙ ap (λ lows. spread_answers (drop 1 lows) (rows_under n (values n (child ∷ children))) parts) (sym all.lows-are)
 
 pub the_leaves_answer : TheLeavesAnswer
-the_leaves_answer nodes shape (n, value) parts read lawful keys rates =
+the_leaves_answer nodes shape (n, value) parts read lawful keys =
     let at = placed_at nodes n shape.root value read.1 in
     let placed : Placed n = (shape.root, at.body) in
     let p : Pass = record { tree = (n, placed); edits = []; routed = []; rest = [] } in
@@ -120,7 +122,12 @@ the_leaves_answer nodes shape (n, value) parts read lawful keys rates =
     ∙ ap (flat_map (group_answers nodes)) (root_matches p nodes lawful.0 parts at.held root)
     ∙ flat_flat load_group (group_answers nodes) loads
     ∙ loads_answer nodes loads beside.held
-    ∙ root_answers n lawful.0 placed parts keys rates root
-    ∙ ap (λ lows. spread (λ a. a.part.key) (drop 1 lows) (answers_in (rows_in n (value_in n at.body)) parts)) (sym beside.lows)
-    ∙ ap (λ ps. spread (λ a. a.part.key) (drop 1 (lows_of ps)) (answers_in (rows_in n (value_in n at.body)) parts)) (sym leaves)
-    ∙ ap (λ (v : Subtree n). spread (λ a. a.part.key) (drop 1 (lows_of (leaves_at nodes shape))) (answers_in (rows_in n v) parts)) at.value-is
+    ∙ root_answers n lawful.0 placed parts keys root
+    ∙ ap (λ lows. spread_answers (drop 1 lows) (rows_in n (value_in n at.body)) parts) (sym beside.lows)
+    ∙ ap (λ ps. spread_answers (drop 1 (lows_of ps)) (rows_in n (value_in n at.body)) parts) (sym leaves)
+    ∙ ap (λ (v : Subtree n). spread_answers (drop 1 (lows_of (leaves_at nodes shape))) (rows_in n v) parts) at.value-is
+
+pub the_leaves_answer_rates : TheLeavesAnswerRates
+the_leaves_answer_rates nodes shape tree parts read lawful keys rates =
+    let lows = drop 1 (lows_of (leaves_at nodes shape)) in
+    the_leaves_answer nodes shape tree parts read lawful keys ∙ ap (spread (λ a. a.part.key) lows) (rates_in_range lows (rows_of tree) parts rates)

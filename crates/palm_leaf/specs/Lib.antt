@@ -4,6 +4,7 @@ pub mod Ends
 pub mod Laws
 pub mod Lending
 pub mod Loads
+pub mod Ranged
 pub mod Routed
 pub mod Settling
 pub mod Spread
