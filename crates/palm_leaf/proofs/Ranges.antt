@@ -1,5 +1,6 @@
 -- Items that pass a test, listed one after another as far as a limit allows.
 use Rattle.std.proofs.Common.{◌≡◌, ℕ, zero, suc, ◌+◌, ◌-◌, ◌<◌, Bool, true, false, List, [], ◌∷◌, ◌++◌, length, take, drop, get_or, filter, refl, sym, arith, ◌∙◌, append_assoc, length-append}
+use Rattle.std.specs.List.{AllWithin}
 use Rattle.std.proofs.lemmas.List.{append-nil}
 use Rattle.std.proofs.Math.Seq.{drop-cons}
 
@@ -28,6 +29,13 @@ all_seen test limit listed = by (limit - length listed)
     by : (n : ℕ) → listed ≡ listed ++ take n []
     by zero = sym (append-nil listed)
     by (suc n) = sym (append-nil listed)
+
+-- Items of which none passes need not be seen.
+pub none_before : {X : Type 0} (test : X → Bool) (items : List X) (i : ℕ) → AllWithin (λ x. test x ≡ false) items 0 i → filter test (drop i items) ≡ filter test items
+none_before test items zero none = refl
+none_before test [] (suc i) none = refl
+none_before test (item ∷ items) (suc i) none =
+    rw (none 0 item (omega arith) (omega arith)) (none_before test items i (λ j other least below. none (suc j) other (omega arith) (omega arith)))
 
 -- The items from one on are it and those behind it.
 pub from_item : {X : Type 0} (items : List X) (i : ℕ) (item : X) → i < length items → item ≡ get_or items i item → drop i items ≡ item ∷ drop (i + 1) items

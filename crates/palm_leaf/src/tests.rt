@@ -40,6 +40,18 @@ fn part(rt: &impl Abort, prefix: &str, ask: Ask) -> Part
     }
 }
 
+// A part that lists so many rows at most, from one prefix to another.
+fn listing(rt: &impl Abort, from: &str, to: &str, limit: u32) -> Part
+    ensures { HasKey result }
+{
+    let ask = Ask::List {
+        from: digits(rt, from),
+        to: digits(rt, to),
+        limit: Limit::new(limit).expect(rt, "a limit"),
+    };
+    part(rt, from, ask)
+}
+
 // The plan for an empty leaf with these parts.
 fn plan_of(alloc: Global, parts: PartList) -> Result<LeafPlan, Fail>
     requires { AllByRecursion HasKey parts }
@@ -70,15 +82,7 @@ fn resolves_parts_in_order(rt: HostRuntime) -> Result<(), Fail> {
     parts.push(part(&rt, "44", Ask::Del))?;
     parts.push(part(&rt, "44", Ask::Look))?;
     parts.push(part(&rt, "45", Ask::Set(amount(&rt, 7))))?;
-    parts.push(part(
-        &rt,
-        "44",
-        Ask::List {
-            from: digits(&rt, "4"),
-            to: digits(&rt, "9"),
-            limit: Limit::new(10).expect(&rt, "a limit"),
-        },
-    ))?;
+    parts.push(listing(&rt, "4", "9", 10))?;
     let mut plan = plan_of(rt.alloc(), parts)?;
     resolve_parts(&Node::Leaf(Leaf::from_rows(&[])), &mut plan);
     let rates = [None, Some(5), Some(5), Some(6), None, None];
@@ -113,6 +117,27 @@ fn cuts_many_rows_in_three(rt: HostRuntime) -> Result<(), Fail> {
     for (leaf, first) in later.iter().zip(["21", "32"]) {
         assert_eq!(rt; leaf.leaf.len(), 11);
         assert_eq!(rt; leaf.low, digits(&rt, first).key(), "{first}");
+    }
+    Ok(())
+}
+
+#[test]
+fn lists_rows_from_the_first_key_on(rt: HostRuntime) -> Result<(), Fail> {
+    let mut parts = sets(&rt, rt.alloc(), &PREFIXES[..8])?;
+    parts.push(listing(&rt, "13", "15", 10))?;
+    parts.push(listing(&rt, "135", "9", 2))?;
+    parts.push(listing(&rt, "0", "105", 10))?;
+    parts.push(listing(&rt, "18", "9", 10))?;
+    parts.push(listing(&rt, "16", "12", 10))?;
+    let mut plan = plan_of(rt.alloc(), parts)?;
+    resolve_parts(&Node::Leaf(Leaf::from_rows(&[])), &mut plan);
+    let lists: [&[&str]; 5] = [&["13", "14", "15"], &["14", "15"], &["10"], &[], &[]];
+    assert!(rt; plan.asked.len() == 8 + lists.len());
+    for (asked, prefixes) in plan.asked[8..].iter().zip(lists) {
+        assert_eq!(rt; asked.found.len(), prefixes.len());
+        for (row, prefix) in asked.found.iter().zip(prefixes) {
+            assert_eq!(rt; row.prefix.key(), digits(&rt, prefix).key(), "{prefix}");
+        }
     }
     Ok(())
 }

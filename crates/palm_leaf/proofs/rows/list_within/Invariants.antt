@@ -1,7 +1,7 @@
 use Rattle.std.proofs.Common.{◌≡◌, ◌≤◌, vec_capacity, drop, take, filter, length}
 use Rattle.palm_base.specs.Table.{lies_within}
 use Rattle.palm_leaf.proofs.Ranges.{listed_with}
-use Rattle.palm_leaf.proofs.rows.list_range.Given as goal
+use Rattle.palm_leaf.proofs.rows.list_within.Given as goal
 
 -- The rows so far and those to come are all that are looked for.
 abbrev pub invariant-loop-row : goal.invariant-loop-row
