@@ -3,7 +3,7 @@ ghost use Rattle.std.specs.Prelude.{◌≡◌, ◌<◌, ◌≤◌};
 ghost use Rattle.palm_base.specs.Table.{IsTable};
 ghost use Rattle.palm_share.specs.declared.share.TheConstants.{MOST_WORKERS};
 
-use crate::pass::{change_levels, route};
+use crate::pass::{Passed, change_levels, route, run_pass};
 use palm_base::{Amount, Call, Digits, Entry, Limit, NoMemory, Row, RowList, Steps};
 use palm_leaf::{LeafAnswer, LeafOutcome, change_leaves};
 use palm_node::Changes;
@@ -189,6 +189,33 @@ fn parts_come_together_by_leaf(rt: HostRuntime) -> Result<(), Fail> {
     Ok(())
 }
 
+// What a pass of a batch over a tree leaves.
+fn passed<R: Threads + Sync, L: Ledger>(
+    rt: &R,
+    alloc: Global,
+    tree: Tree,
+    batch: &[Entry],
+    workers: u32,
+    blank: Blank,
+) -> Result<Passed, NoMemory>
+    requires name { blank.name ≡ L.name }
+    requires parts { blank.parts ≡ L.parts }
+    requires blank { 0 < blank.parts }
+    requires some { 1 ≤ workers }
+    requires few { workers ≤ MOST_WORKERS }
+{
+    let mut steps = Steps::<L>::new(blank);
+    let Tree {
+        mut arena,
+        shape,
+        ..
+    } = tree;
+    arena.begin();
+    run_pass(
+        rt, alloc, &mut arena, shape, batch, workers, &OpenGate, &mut steps,
+    )
+}
+
 // What an answer tells: the rate that was there, or none, or how many rows were found.
 fn told(answer: &LeafAnswer) -> (Option<u64>, Option<usize>) {
     match answer {
@@ -335,5 +362,58 @@ fn two_workers_make_two_nodes_anew_beside_each_other(rt: HostRuntime) -> Result<
     let counts = piece_counts(alloc, &outcome.changes)?;
     assert!(rt; counts.as_slice() == [1, 1].as_slice());
     assert_eq!(rt; gate.gave_up.load(Ordering::SeqCst), 0);
+    Ok(())
+}
+
+// How many orphans a pass leaves, the number of the first of them, and how many levels the tree has.
+fn left_by(passed: &Passed) -> (usize, Option<u64>, u32) {
+    let orphans = passed.orphans.as_slice();
+    let first = orphans.first().map(|row| row.rate.get());
+    (orphans.len(), first, passed.shape.levels)
+}
+
+// On the tree of these numbers the pass of the calls leaves so much.
+fn assert_left<R: Threads + Sync + Abort>(
+    rt: &R,
+    alloc: Global,
+    (from, to): (u64, u64),
+    calls: &[Call],
+    expected: (usize, Option<u64>, u32),
+) -> Result<(), Fail> {
+    let batch = entries(alloc, calls)?;
+    for workers in [1, 3, MOST_WORKERS] {
+        let tree = built(rt, alloc, from, to)?;
+        let passed = passed::<R, Brand>(rt, alloc, tree, &batch, workers, Blank::new(1))?;
+        assert!(rt;
+            left_by(&passed) == expected,
+            "{from} to {to}, {workers} workers"
+        );
+    }
+    Ok(())
+}
+
+// The tree of 10 to 26 has leaves of 9 and 8 rows, and that of 10 to 25 is one full leaf. That of 100 to 355 has 16 full
+// leaves, and that of 100 to 499 has 25 under nodes of 13 and 12, of which the Dels empty five under the second.
+#[test]
+fn a_pass_ends_in_a_root_and_gathers_orphans(rt: HostRuntime) -> Result<(), Fail> {
+    let alloc = rt.alloc();
+    let mut dels = Vec::new(alloc);
+    for number in 308..=387 {
+        let text = format!(in alloc; "{number}")?;
+        dels.push(del(&rt, text.as_str()))?;
+    }
+    let gets = [get(&rt, "10"), get(&rt, "26")];
+    let three = [del(&rt, "10"), del(&rt, "11"), del(&rt, "26")];
+    let cases: [((u64, u64), &[Call], (usize, Option<u64>, u32)); 6] = [
+        ((10, 26), &gets, (0, None, 2)),
+        ((10, 26), &three, (14, Some(12), 1)),
+        ((10, 26), &[del(&rt, "26")], (7, Some(19), 1)),
+        ((10, 25), &[set(&rt, "26", 26)], (0, None, 2)),
+        ((100, 355), &[set(&rt, "356", 356)], (0, None, 3)),
+        ((100, 499), &dels, (112, Some(388), 2)),
+    ];
+    for (numbers, calls, expected) in cases {
+        assert_left(&rt, alloc, numbers, calls, expected)?;
+    }
     Ok(())
 }
