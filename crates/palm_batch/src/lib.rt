@@ -14,6 +14,8 @@ pub use plain::{MOST_CALLS, PlainTable, run_plain};
 pub use replies::join_answers;
 
 #[cfg(test)]
+mod calls;
+#[cfg(test)]
 mod stage_tests;
 #[cfg(test)]
 mod tests;

@@ -3,8 +3,9 @@ ghost use Rattle.std.specs.Prelude.{◌≡◌, ◌<◌, ◌≤◌};
 ghost use Rattle.palm_base.specs.Table.{IsTable};
 ghost use Rattle.palm_share.specs.declared.share.TheConstants.{MOST_WORKERS};
 
+use crate::calls::{amount, del, digits, get, list, set};
 use crate::pass::{Passed, change_levels, route, run_pass};
-use palm_base::{Amount, Call, Digits, Entry, Limit, NoMemory, Row, RowList, Steps};
+use palm_base::{Call, Entry, NoMemory, Row, RowList, Steps};
 use palm_leaf::{LeafAnswer, LeafOutcome, change_leaves};
 use palm_node::Changes;
 use palm_route::{Groups, PartList};
@@ -17,38 +18,6 @@ use std::sync::atomic::{AtomicBool, AtomicU64, Ordering};
 use std::sync::ledger::{Blank, Ledger};
 use std::test::Fail;
 use std::thread::Threads;
-
-fn digits(rt: &impl Abort, text: &str) -> Digits {
-    Digits::read(text.as_bytes()).expect(rt, "a prefix")
-}
-
-fn amount(rt: &impl Abort, rate: u64) -> Amount {
-    Amount::new(rate).expect(rt, "a rate")
-}
-
-fn set(rt: &impl Abort, prefix: &str, rate: u64) -> Call {
-    let prefix = digits(rt, prefix);
-    let rate = amount(rt, rate);
-    Call::Set { prefix, rate }
-}
-
-fn del(rt: &impl Abort, prefix: &str) -> Call {
-    let prefix = digits(rt, prefix);
-    Call::Del { prefix }
-}
-
-fn get(rt: &impl Abort, prefix: &str) -> Call {
-    let prefix = digits(rt, prefix);
-    Call::Get { prefix }
-}
-
-fn list(rt: &impl Abort, from: &str, to: &str, limit: u32) -> Call {
-    Call::List {
-        from: digits(rt, from),
-        to: digits(rt, to),
-        limit: Limit::new(limit).expect(rt, "a limit"),
-    }
-}
 
 fn entries(alloc: Global, calls: &[Call]) -> Result<Vec<Entry>, NoMemory> {
     let mut entries = Vec::with_capacity(alloc, calls.len())?;

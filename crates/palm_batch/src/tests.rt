@@ -4,6 +4,7 @@ ghost use Rattle.palm_base.specs.Key.{key};
 ghost use Rattle.palm_leaf.specs.declared.answer.LeafAnswer.TheVariants.{Old};
 
 use super::*;
+use crate::calls::{amount, del, digits, get, set};
 use crate::replies::join_answers;
 use palm_base::{Amount, Call, Digits, Entry};
 use palm_leaf::{LeafAnswer, PartAnswer};
@@ -11,29 +12,6 @@ use palm_route::{Ask, Part};
 use std::alloc::Global;
 use std::process::Abort;
 use std::test::Fail;
-
-fn digits(rt: &impl Abort, text: &str) -> Digits {
-    Digits::read(text.as_bytes()).expect(rt, "a prefix")
-}
-
-fn set(rt: &impl Abort, prefix: &str, rate: u64) -> Call {
-    Call::Set {
-        prefix: digits(rt, prefix),
-        rate: Amount::new(rate).expect(rt, "a rate"),
-    }
-}
-
-fn del(rt: &impl Abort, prefix: &str) -> Call {
-    Call::Del {
-        prefix: digits(rt, prefix),
-    }
-}
-
-fn get(rt: &impl Abort, prefix: &str) -> Call {
-    Call::Get {
-        prefix: digits(rt, prefix),
-    }
-}
 
 fn entries_of(rt: &impl Abort, alloc: Global, calls: &[Call]) -> Result<Vec<Entry>, Fail>
     ensures { IfOk result (λ entries. ArePlain entries.items) }
@@ -143,7 +121,7 @@ fn replies_stand_at_their_entries_whatever_leaf_answers(rt: HostRuntime) -> Resu
     let low = digits(&rt, "2");
     let high = digits(&rt, "44");
     assert_before(&rt, &low, &high);
-    let rate = Amount::new(5).expect(&rt, "a rate");
+    let rate = amount(&rt, 5);
     let batch = [
         entry(Call::Set { prefix: high, rate }),
         entry(Call::Get { prefix: low }),

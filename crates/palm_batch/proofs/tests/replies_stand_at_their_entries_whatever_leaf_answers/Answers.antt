@@ -43,7 +43,7 @@ join_answers-requires-clause-answers g c = (
   [],
   key c.digits-high.result ∷ [],
   [],
-  two_leaves c.digits-low.result c.digits-high.result c.expect-rate.result c.entry.result c.entry-2.result c.entry-3.result c.part_answer.result c.part_answer-2.result c.part_answer-3.result c.key-2.ensures.prefix c.assert_before.ensures
+  two_leaves c.digits-low.result c.digits-high.result c.amount-rate.result c.entry.result c.entry-2.result c.entry-3.result c.part_answer.result c.part_answer-2.result c.part_answer-3.result c.key-2.ensures.prefix c.assert_before.ensures
       (ap (λ (e : Entry). e.call) c.entry.ensures) (ap (λ (e : Entry). e.call) c.entry-2.ensures) (ap (λ (e : Entry). e.call) c.entry-3.ensures)
-      (c.part_answer.ensures ∙ ap (λ k. answer 1 k ask.Look None) c.key.ensures.key) (c.part_answer-2.ensures ∙ ap (λ k. answer 0 k (ask.Set c.expect-rate.result) None) c.key-2.ensures.key) (c.part_answer-3.ensures ∙ ap (λ k. answer 2 k ask.Look (Some c.expect-rate.result)) c.key-3.ensures.key),
+      (c.part_answer.ensures ∙ ap (λ k. answer 1 k ask.Look None) c.key.ensures.key) (c.part_answer-2.ensures ∙ ap (λ k. answer 0 k (ask.Set c.amount-rate.result) None) c.key-2.ensures.key) (c.part_answer-3.ensures ∙ ap (λ k. answer 2 k ask.Look (Some c.amount-rate.result)) c.key-3.ensures.key),
 )
