@@ -1,0 +1,6 @@
+//! The engine: the tree of a rating table, and the batches of calls that are run on it.
+#![tactic(auto)]
+
+mod engine;
+
+pub use engine::Engine;
