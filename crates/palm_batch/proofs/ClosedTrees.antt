@@ -10,7 +10,7 @@ use Rattle.palm_base.specs.Table.{IsTable}
 use Rattle.palm_base.specs.Tree.{Tree, rows_of}
 use Rattle.palm_base.specs.declared.call.Entry.{Entry}
 use Rattle.palm_base.specs.declared.call.Reply.{Reply}
-use Rattle.palm_base.proofs.Batches.{batches_keep_rows}
+use Rattle.palm_base.proofs.Batches.{batches_keep_rows, batches_keep_law}
 use Rattle.palm_base.proofs.Histories.{histories_go_by_calls}
 use Rattle.palm_base.proofs.LevelCounts.{prefixes_are_few}
 use Rattle.palm_base.proofs.LiteralTrees.{root_to}
@@ -57,6 +57,13 @@ rows_close tree batch replies rows left lawful are count told =
     ap length (batches_keep_rows tree (calls_of batch) lawful ∙ sym (histories_go_by_calls (rows_of tree) batch)) in
     let now = subst (λ replies. left + count_by is_gone replies ≡ rows + count_by is_new replies) are told in
     omega (arith, counted, same, now, count)
+
+-- The tree after a batch has the rows that its calls leave, and is lawful.
+pub rows_left : (old now : Tree) (batch : List Entry) → IsLawful old → now ≡ batch_tree old (calls_of batch) → rows_of now ≡ table_after (rows_of old) batch
+rows_left old now batch lawful is = ap rows_of is ∙ batches_keep_rows old (calls_of batch) lawful ∙ sym (histories_go_by_calls (rows_of old) batch)
+
+pub law_left : (old now : Tree) (batch : List Entry) → IsLawful old → now ≡ batch_tree old (calls_of batch) → IsLawful now
+law_left old now batch lawful is = subst IsLawful (sym is) (batches_keep_law old (calls_of batch) lawful)
 
 -- ---- the nodes
 

@@ -1,7 +1,8 @@
 // A batch over a tree, as it is called from above.
 ghost use Rattle.std.specs.Prelude.{◌≡◌, ◌+◌, ◌≤◌, length, IfOk, OnOk, OnErr};
 ghost use Rattle.palm_share.specs.declared.share.TheConstants.{MOST_WORKERS};
-ghost use Rattle.palm_base.specs.History.{ArePlain, calls_of, replies_to};
+ghost use Rattle.palm_base.specs.History.{ArePlain, calls_of, replies_to, table_after};
+ghost use Rattle.palm_base.specs.Lawful.{IsLawful};
 ghost use Rattle.palm_base.specs.Pass.{batch_tree};
 ghost use Rattle.palm_base.specs.Tree.{rows_of};
 ghost use Rattle.palm_tree.specs.TreeValue.{tree_in};
@@ -38,6 +39,8 @@ pub fn run_batch<R: Threads + Sync, G: Gate + Sync, L: Ledger>(
     requires few { workers ≤ MOST_WORKERS }
     ensures tree { OnOk result (tree_in tree.new ≡ batch_tree (tree_in tree.old) (calls_of batch.now)) }
     ensures replies { IfOk result (λ replies. replies.items ≡ replies_to (rows_of (tree_in tree.old)) batch.now) }
+    ensures rows { OnOk result (rows_of (tree_in tree.new) ≡ table_after (rows_of (tree_in tree.old)) batch.now) }
+    ensures lawful { IsLawful (tree_in tree.new) }
     ensures err_nodes { OnErr result (tree.new.places ≡ tree.old.places) }
     ensures err_shape { OnErr result (tree.new.shape ≡ tree.old.shape) }
     ensures ticks { steps.new ≤ steps.old + tree_cost tree.old batch.now }

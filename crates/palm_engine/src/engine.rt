@@ -1,7 +1,8 @@
 ghost use Rattle.std.specs.Prelude.{◌≡◌, ◌+◌, ◌≤◌, [], length, take, IfOk, OnOk, OnErr};
 ghost use Rattle.std.proofs.Common.{zero};
 ghost use Rattle.palm_share.specs.declared.share.TheConstants.{MOST_WORKERS};
-ghost use Rattle.palm_base.specs.History.{ArePlain, calls_of, replies_to};
+ghost use Rattle.palm_base.specs.History.{ArePlain, calls_of, replies_to, table_after};
+ghost use Rattle.palm_base.specs.Lawful.{IsLawful};
 ghost use Rattle.palm_base.specs.Pass.{batch_tree};
 ghost use Rattle.palm_base.specs.Tree.{rows_of};
 ghost use Rattle.palm_tree.specs.TreeValue.{tree_in};
@@ -54,6 +55,8 @@ impl Engine {
         requires few { workers ≤ MOST_WORKERS }
         ensures tree { OnOk result (tree_in self.new.tree ≡ batch_tree (tree_in self.old.tree) (calls_of (take max roll.now))) }
         ensures replies { IfOk result (λ replies. replies.items ≡ replies_to (rows_of (tree_in self.old.tree)) (take max roll.now)) }
+        ensures rows { OnOk result (rows_of (tree_in self.new.tree) ≡ table_after (rows_of (tree_in self.old.tree)) (take max roll.now)) }
+        ensures lawful { IsLawful (tree_in self.new.tree) }
         ensures err_nodes { OnErr result (self.new.tree.places ≡ self.old.tree.places) }
         ensures err_shape { OnErr result (self.new.tree.shape ≡ self.old.tree.shape) }
         ensures ticks { steps.new ≤ steps.old + tree_cost self.old.tree (take max roll.now) }

@@ -1,6 +1,7 @@
 use Rattle.std.proofs.Common.{◌≡◌, ◌+◌, ◌≤◌, length, unwrap_or, sym, ap, ◌∙◌, subst, arith}
 use Rattle.std.specs.List.{Contains}
 use Rattle.palm_base.specs.History.{calls_of, replies_to}
+use Rattle.palm_base.specs.Lawful.{IsLawful}
 use Rattle.palm_base.specs.Pass.{batch_tree}
 use Rattle.palm_base.specs.Tree.{rows_of}
 use Rattle.palm_node.specs.declared.id.NodeId.{NodeId}
@@ -11,7 +12,7 @@ use Rattle.palm_tree.proofs.Values.{tree_reads}
 use Rattle.palm_batch.specs.Costs.{batch_cost, tree_cost}
 use Rattle.palm_batch.specs.Passing.{IsTree}
 use Rattle.palm_batch.proofs.OpenTrees.{tree_stands}
-use Rattle.palm_batch.proofs.ClosedTrees.{rows_fit, rows_stand, rows_close, tree_closes, tree_stays, others_stay}
+use Rattle.palm_batch.proofs.ClosedTrees.{rows_fit, rows_stand, rows_close, rows_left, law_left, tree_closes, tree_stays, others_stay}
 use Rattle.palm_batch.proofs.batch.run_batch.Goals as goal
 
 pub run_passes-ran-requires-clause-tree : goal.run_passes-ran-requires-clause-tree
@@ -66,6 +67,19 @@ returns-in-Ok-clause-replies g c =
     let tree = tree_of own.arena.places own.shape in
     let is = tree_stands own.arena c.begin.new.self own.shape own.rows c.tree.invariant (ap (λ (a : ArenaState). a.places) c.begin.ensures) in
     subst (λ (s : TreeState). c.in-Ok.field-0.replies.items ≡ replies_to (rows_of (tree_in s)) c.args.batch.now) c.tree.view_is (c.in-Ok.ensures.replies tree is)
+
+pub returns-in-Ok-clause-rows : goal.returns-in-Ok-clause-rows
+returns-in-Ok-clause-rows g c =
+    let lawful = subst (λ (s : TreeState). IsLawful (tree_in s)) c.tree.view_is c.tree.invariant.lawful in
+    rows_left (tree_in c.args.tree.now) (tree_of c.commit.new.self.places c.in-Ok.field-0.shape) c.args.batch.now lawful (returns-in-Ok-clause-tree g c)
+
+pub returns-in-Ok-clause-lawful : goal.returns-in-Ok-clause-lawful
+returns-in-Ok-clause-lawful g c =
+    let lawful = subst (λ (s : TreeState). IsLawful (tree_in s)) c.tree.view_is c.tree.invariant.lawful in
+    law_left (tree_in c.args.tree.now) (tree_of c.commit.new.self.places c.in-Ok.field-0.shape) c.args.batch.now lawful (returns-in-Ok-clause-tree g c)
+
+pub returns-in-Err-clause-lawful : goal.returns-in-Err-clause-lawful
+returns-in-Err-clause-lawful g c = (invariant_of-tree-in-Err g c).lawful
 
 pub returns-in-Ok-clause-ticks : goal.returns-in-Ok-clause-ticks
 returns-in-Ok-clause-ticks g c =
