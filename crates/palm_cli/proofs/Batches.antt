@@ -1,5 +1,5 @@
 -- A history in batches of one length: the first batch, and what is left.
-use Rattle.std.proofs.Common.{◌≡◌, ℕ, suc, ◌+◌, ◌-◌, ◌*◌, ◌/◌, ◌%◌, ◌<◌, ◌≤◌, min, eqb, cond, List, [], ◌∷◌, ◌++◌, length, take, drop, refl, sym, ap, subst, ◌∙◌, append_assoc, arith, inl, inr}
+use Rattle.std.proofs.Common.{◌≡◌, ℕ, zero, suc, ◌+◌, ◌-◌, ◌*◌, ◌/◌, ◌%◌, ◌<◌, ◌≤◌, min, eqb, cond, List, [], ◌∷◌, ◌++◌, length, take, drop, refl, sym, ap, subst, ◌∙◌, append_assoc, arith, inl, inr}
 use Rattle.std.proofs.Math.Nat.{suc-mul, mod-eq_of_lt, div-eq_of_lt, zero-div}
 use Rattle.std.proofs.lemmas.Bool.{cases_lt, ne_eqb}
 use Rattle.std.proofs.lemmas.List.{length-drop, length-take}
@@ -7,8 +7,17 @@ use Rattle.std.proofs.lemmas.Nat.{div-add-mod', div-mul-add, mod-mul-add, mod_be
 use Rattle.palm_base.specs.declared.row.Row.{Row}
 use Rattle.palm_base.specs.declared.call.Entry.{Entry}
 use Rattle.palm_base.specs.Table.{after}
-use Rattle.palm_base.specs.History.{table_after}
+use Rattle.palm_base.specs.History.{calls_of, table_after}
+use Rattle.palm_base.specs.Pass.{batch_tree, tree_after}
+use Rattle.palm_base.specs.Tree.{Tree}
 use Rattle.palm_script.specs.Transcript.{batch_text, batches_text, cut_by}
+
+-- Of a list that is short enough all is taken.
+pub take_all : {X : Type 0} (n : ℕ) (xs : List X) → length xs ≤ n → take n xs ≡ xs
+take_all zero [] few = refl
+take_all zero (x ∷ xs) few = absurd (omega arith)
+take_all (suc n) [] few = refl
+take_all (suc n) (x ∷ xs) few = ap (λ (l : List _). x ∷ l) (take_all n xs (omega arith))
 
 pub table_after-append : (rows : List Row) (xs ys : List Entry) → table_after rows (xs ++ ys) ≡ table_after (table_after rows xs) ys
 table_after-append rows [] ys = refl
@@ -57,3 +66,17 @@ written_more most n rows rest batch left w all some more batch-is left-is whole 
     let opened : by_count (length batch) = subst by_count (sym size) (rw (← batch-is, ← left-is) at one) in
     append_assoc w (batch_text n rows batch) (batches_text (n + length batch) (table_after rows batch) left (cut_by most (length left)))
     ∙ ap (λ (l : List ℕ). w ++ l) (sym opened) ∙ whole
+
+-- A batch more was run: what is left leaves of its tree what all that was left did before.
+pub tree_more : (most : ℕ) (tree next all : Tree) (rest batch left : List Entry) → 1 ≤ most → 0 < length rest
+    → batch ≡ take (min (length rest) most) rest → left ≡ drop (min (length rest) most) rest → next ≡ batch_tree tree (calls_of batch)
+    → tree_after tree rest (cut_by most (length rest)) ≡ all → tree_after next left (cut_by most (length left)) ≡ all
+tree_more most tree next all rest batch left some more batch-is left-is next-is whole =
+    let k : ℕ = min (length rest) most in
+    let fewer : length rest - k ≡ length left = omega (arith, length-drop k rest, ap length left-is) in
+    let lengths = cut_by most (length left) in
+    let cut : cut_by most (length rest) ≡ k ∷ lengths = cut_by-more most (length rest) some more ∙ ap (λ (m : ℕ). k ∷ cut_by most m) fewer in
+    ap (λ (t : Tree). tree_after t left lengths) next-is
+    ∙ ap (λ (b : List Entry). tree_after (batch_tree tree (calls_of b)) left lengths) batch-is
+    ∙ ap (λ (l : List Entry). tree_after (batch_tree tree (calls_of (take k rest))) l lengths) left-is
+    ∙ sym (ap (tree_after tree rest) cut) ∙ whole

@@ -7,13 +7,20 @@ mod status;
 #[cfg(test)]
 mod tests;
 
+ghost use Rattle.std.specs.Prelude.{◌≡◌, ◌<◌};
+
 use crate::status::Status;
-use palm_base::NoMemory;
-use palm_script::{StdSink, StdSource};
+use palm_base::{NoMemory, Steps};
+use palm_engine::Engine;
+use palm_script::{Sink, Source, StdSink, StdSource};
 use palm_share::OpenGate;
+use std::alloc::Global;
 use std::env;
 use std::io::ErrorKind;
+use std::marker::Brand;
 use std::process::ExitCode;
+use std::sync::ledger::{Blank, Ledger};
+use std::thread::Threads;
 
 // The words after the program's name. Where one of them is no text there are none, which is wrong usage.
 fn words_of(rt: &HostRuntime) -> Result<Vec<String>, NoMemory> {
@@ -24,6 +31,37 @@ fn words_of(rt: &HostRuntime) -> Result<Vec<String>, NoMemory> {
     }
 }
 
+// Runs the program on a new engine, with a counter of its own.
+fn start<R: Threads + Sync, S: Source, O: Sink, E: Sink, L: Ledger>(
+    rt: &R,
+    alloc: Global,
+    words: &Vec<String>,
+    src: &mut S,
+    out: &mut O,
+    err: &mut E,
+    blank: Blank,
+) -> u8
+    requires name { blank.name ≡ L.name }
+    requires parts { blank.parts ≡ L.parts }
+    requires some { 0 < blank.parts }
+{
+    let mut steps = Steps::<L>::new(blank);
+    let Ok(mut engine) = Engine::new(alloc) else {
+        return status::tell(alloc, err, Status::NoMemory).code();
+    };
+    palm::palm(
+        rt,
+        alloc,
+        words,
+        &mut engine,
+        src,
+        out,
+        err,
+        &OpenGate,
+        &mut steps,
+    )
+}
+
 fn main(rt: HostRuntime) -> ExitCode {
     let mut err = StdSink::new(rt.stderr());
     let Ok(words) = words_of(&rt) else {
@@ -31,6 +69,15 @@ fn main(rt: HostRuntime) -> ExitCode {
     };
     let mut src = StdSource::new(rt.stdin());
     let mut out = StdSink::new(rt.stdout());
-    let code = palm::palm(rt.alloc(), &words, &mut src, &mut out, &mut err, &OpenGate);
+    let blank = Blank::new(1);
+    let code = start::<_, _, _, _, Brand>(
+        &rt,
+        rt.alloc(),
+        &words,
+        &mut src,
+        &mut out,
+        &mut err,
+        blank,
+    );
     ExitCode::from(code)
 }

@@ -1,5 +1,8 @@
-ghost use Rattle.std.specs.Prelude.{◌≡◌, ◌<◌, ◌^◌, ◌-◌, ◌↔◌, ◌⊎◌, true, false, map, OnOk, IsErrOf, IfSome, string_bytes};
+ghost use Rattle.std.specs.Prelude.{◌≡◌, ◌<◌, ◌^◌, ◌-◌, ◌↔◌, ◌⊎◌, true, false, [], map, OnOk, IsErrOf, IfSome, string_bytes};
 ghost use Rattle.std.specs.Io.KnownBytes.{Appends};
+ghost use Rattle.std.proofs.Common.{zero};
+ghost use Rattle.palm_base.specs.Lawful.{IsLawful};
+ghost use Rattle.palm_tree.specs.TreeValue.{tree_in};
 ghost use Rattle.palm_script.specs.Causes.{Rose};
 ghost use Rattle.palm_script.specs.Transcript.{end_line};
 ghost use Rattle.palm_script.specs.declared.line.LineFault.{LineFault};
@@ -8,9 +11,13 @@ ghost use Rattle.palm_cli.specs.declared.status.Status.{Status};
 
 use crate::run::{Stop, run_history};
 use crate::status::{Status, tell};
+use palm_base::Steps;
+use palm_engine::Engine;
 use palm_script::{InputEnd, Sink, Source, laws, print_end, read_input, read_script, write_all};
 use palm_share::Gate;
 use std::alloc::Global;
+use std::sync::ledger::Ledger;
+use std::thread::Threads;
 
 impl From<Stop> for Status {
     ghost use Rattle.std.specs.Prelude.{◌≡◌};
@@ -44,14 +51,19 @@ fn write_end<O: Sink>(alloc: Global, calls: u64, rows: u64, out: &mut O) -> Resu
     Ok(())
 }
 
-// Reads a script, runs it and writes its transcript.
-fn replay<S: Source, O: Sink, G: Gate + Sync>(
+// Reads a script, runs it on a new engine and writes its transcript.
+fn replay<R: Threads + Sync, S: Source, O: Sink, G: Gate + Sync, L: Ledger>(
+    rt: &R,
     alloc: Global,
+    engine: &mut Engine,
     src: &mut S,
     out: &mut O,
     gate: &G,
+    steps: &mut Steps<L>,
 ) -> Status
-    ensures { EndsAs result (S.left src.old) (O.taken out.old) (O.taken out.new) (S.faults src.old) (S.faults src.new) (O.faults out.old) (O.faults out.new) }
+    requires new { tree_in engine.old.tree ≡ (zero, []) }
+    ensures end { EndsAs result (S.left src.old) (O.taken out.old) (O.taken out.new) (S.faults src.old) (S.faults src.new) (O.faults out.old) (O.faults out.new) (tree_in engine.new.tree) }
+    ensures lawful { IsLawful (tree_in engine.new.tree) }
 {
     laws::faults_stand();
     let Ok(input) = read_input(alloc, src) else {
@@ -60,26 +72,30 @@ fn replay<S: Source, O: Sink, G: Gate + Sync>(
     let Ok(script) = read_script(alloc, &input.bytes, input.end.is_whole()) else {
         return Status::NoMemory;
     };
-    let rows = match run_history(alloc, &script.entries, out, gate) {
-        Ok(rows) => rows,
-        Err(stop) => return Status::from(stop),
-    };
+    if let Err(stop) = run_history(rt, alloc, engine, &script.entries, out, gate, steps) {
+        return Status::from(stop);
+    }
     if let Some(fault) = script.fault {
         return Status::Bad(fault);
     }
     match input.end {
         InputEnd::Failed => Status::ReadFault,
         InputEnd::Long => Status::TooLong,
-        InputEnd::Whole => match write_end(alloc, script.entries.len() as u64, rows, out) {
-            Ok(()) => Status::Done,
-            Err(stop) => Status::from(stop),
-        },
+        InputEnd::Whole => {
+            let calls = script.entries.len() as u64;
+            match write_end(alloc, calls, engine.tree.row_count(), out) {
+                Ok(()) => Status::Done,
+                Err(stop) => Status::from(stop),
+            }
+        }
     }
 }
 
-/// The program over any streams. Its words are the one word `replay`: it reads a script from `src`, runs its calls in
-/// the order of their lines, writes the transcript to `out`, and answers the program's exit status, of which it tells
-/// `err` one line where that isn't 0. It always returns, and no answer depends on `gate`.
+/// The program over any streams and a new engine. Its words are the one word `replay`: it reads a script from `src`, runs its
+/// calls on the engine in the order of their lines, writes the transcript to `out`, and answers the program's exit status, of
+/// which it tells `err` one line where that isn't 0. It always returns, and no answer depends on `gate`. The engine's tree is
+/// then the serial rule's for all calls of the transcript, but where `out` failed or memory was refused: then it is a lawful
+/// tree.
 ///
 /// | status | cause |
 /// |---|---|
@@ -90,35 +106,43 @@ fn replay<S: Source, O: Sink, G: Gate + Sync>(
 /// | 5 | `out` failed |
 /// | 6 | memory was refused |
 /// | 7 | the source has more than 64 MiB; the transcript of the lines that ended within them was taken |
-pub fn palm<S: Source, O: Sink, E: Sink, G: Gate + Sync>(
+pub fn palm<R: Threads + Sync, S: Source, O: Sink, E: Sink, G: Gate + Sync, L: Ledger>(
+    rt: &R,
     alloc: Global,
     words: &Vec<String>,
+    engine: &mut Engine,
     src: &mut S,
     out: &mut O,
     err: &mut E,
     gate: &G,
+    steps: &mut Steps<L>,
 ) -> u8
-    // 0: all was read, every line is good, the whole transcript was taken, and nothing failed.
-    ensures good { result ≡ 0 → IfSome (S.left src.old) (λ b. IsGood b (O.taken out.old) (O.taken out.new)) }
+    requires new { tree_in engine.old.tree ≡ (zero, []) }
+
+    // The engine's tree is lawful, however the run ends.
+    ensures lawful { IsLawful (tree_in engine.new.tree) }
+
+    // 0: all was read, every line is good, the whole transcript was taken, and nothing failed. The tree is that of all calls.
+    ensures good { result ≡ 0 → IfSome (S.left src.old) (λ b. IsGood b (O.taken out.old) (O.taken out.new) (tree_in engine.new.tree)) }
     ensures kept { result ≡ 0 → (S.faults src.new ≡ S.faults src.old) × (O.faults out.new ≡ O.faults out.old) }
 
     // 2 comes exactly where the words aren't of the form, and then nothing is read or written.
     ensures usage { result ≡ 2 ↔ (are_replay (map string_bytes words.now.items) ≡ false) }
-    ensures nothing { result ≡ 2 → (src.new ≡ src.old) × (out.new ≡ out.old) }
+    ensures nothing { result ≡ 2 → (src.new ≡ src.old) × (out.new ≡ out.old) × (engine.new ≡ engine.old) }
 
-    // 3: this is the script's first faulty line, and what was taken is the transcript of the calls before it.
-    ensures bad { result ≡ 3 → (f : LineFault) × IfSome (S.left src.old) (λ b. IsBad b f (O.taken out.old) (O.taken out.new))
+    // 3: this is the script's first faulty line, what was taken is the transcript of the calls before it, and the tree is theirs.
+    ensures bad { result ≡ 3 → (f : LineFault) × IfSome (S.left src.old) (λ b. IsBad b f (O.taken out.old) (O.taken out.new) (tree_in engine.new.tree))
         × Told (E.taken err.old) (E.taken err.new) (E.faults err.old) (E.faults err.new) (fault_line f) }
 
-    // 4: the source failed. What was taken is the transcript of the lines before.
+    // 4: the source failed. What was taken is the transcript of the lines before, and the tree is theirs.
     ensures read { result ≡ 4 → Rose (S.faults src.old) (S.faults src.new) }
-    ensures cut_short { result ≡ 4 → IfSome (S.left src.old) (λ b. IsCutShort b (O.taken out.old) (O.taken out.new)) }
+    ensures cut_short { result ≡ 4 → IfSome (S.left src.old) (λ b. IsCutShort b (O.taken out.old) (O.taken out.new) (tree_in engine.new.tree)) }
 
     // 5: the sink failed.
     ensures write { result ≡ 5 → Rose (O.faults out.old) (O.faults out.new) }
 
-    // 7: the source has a byte too many. What was taken is the transcript of the lines before.
-    ensures long { result ≡ 7 → IfSome (S.left src.old) (λ b. IsLong b (O.taken out.old) (O.taken out.new)) }
+    // 7: the source has a byte too many. What was taken is the transcript of the lines before, and the tree is theirs.
+    ensures long { result ≡ 7 → IfSome (S.left src.old) (λ b. IsLong b (O.taken out.old) (O.taken out.new) (tree_in engine.new.tree)) }
 
     // Where the words are of the form and nothing failed, there is no other end than these.
     ensures complete { are_replay (map string_bytes words.now.items) ≡ true
@@ -131,7 +155,7 @@ pub fn palm<S: Source, O: Sink, E: Sink, G: Gate + Sync>(
         × Told (E.taken err.old) (E.taken err.new) (E.faults err.old) (E.faults err.new) (status_text status) }
 {
     let status = if is_replay(words) {
-        replay(alloc, src, out, gate)
+        replay(rt, alloc, engine, src, out, gate, steps)
     } else {
         Status::Usage
     };

@@ -1,18 +1,27 @@
-ghost use Rattle.std.specs.Prelude.{◌≡◌, ℕ, ◌+◌, ◌≤◌, ◌++◌, [], length, IfOk, OnOk, IsErrOf};
+ghost use Rattle.std.specs.Prelude.{◌≡◌, ◌+◌, ◌≤◌, ◌++◌, length, OnOk, IsErrOf};
 ghost use Rattle.std.specs.Io.KnownBytes.{Appends};
-ghost use Rattle.palm_base.specs.History.{ArePlain, table_after};
+ghost use Rattle.palm_base.specs.History.{ArePlain, calls_of, table_after};
+ghost use Rattle.palm_base.specs.Lawful.{IsLawful};
+ghost use Rattle.palm_base.specs.Pass.{batch_tree, tree_after};
+ghost use Rattle.palm_base.specs.Tree.{rows_of};
+ghost use Rattle.palm_tree.specs.TreeValue.{tree_in};
 ghost use Rattle.palm_script.specs.Causes.{Rose};
 ghost use Rattle.palm_script.specs.Transcript.{reply_lines, batch_text, batches_text, cut_by};
 ghost use Rattle.palm_cli.specs.declared.run.Stop.TheVariants as stops;
 
-use palm_base::{Entry, NoMemory, Reply, laws};
-use palm_batch::{PlainTable, run_plain};
+use palm_base::{Entry, NoMemory, Reply, Steps, laws};
+use palm_engine::Engine;
 use palm_script::{Failed, MOST_BYTES, Sink, print_batch, print_reply, write_all};
 use palm_share::{Gate, Who};
 use std::alloc::Global;
+use std::sync::ledger::Ledger;
+use std::thread::Threads;
 
 /// The number of calls in a batch.
 pub const BATCH: usize = 4_096;
+
+/// The number of workers of a batch.
+pub const WORKERS: u32 = 1;
 
 /// Why a run stopped.
 #[derive(Clone, Copy, Debug, PartialEq, Eq)]
@@ -56,45 +65,53 @@ fn print_replies(
     Ok(())
 }
 
-// Runs a batch on the table, and appends its lines.
-fn run_batch(
-    alloc: Global,
+// Runs a batch on the engine, and appends its lines.
+fn run_batch<R: Threads + Sync, G: Gate + Sync, L: Ledger>(
+    rt: &R,
     n: u64,
-    table: &mut PlainTable,
+    engine: &mut Engine,
     batch: &[Entry],
+    gate: &G,
+    steps: &mut Steps<L>,
     text: &mut Vec<u8>,
 ) -> Result<(), NoMemory>
     requires most { length batch.now ≤ BATCH }
     requires fits { n + length batch.now ≤ MOST_BYTES }
     requires plain { ArePlain batch.now }
-    ensures text { OnOk result (text.new.items ≡ text.old.items ++ batch_text n table.old batch.now) }
-    ensures after { OnOk result (table.new ≡ table_after table.old batch.now) }
+    ensures text { OnOk result (text.new.items ≡ text.old.items ++ batch_text n (rows_of (tree_in engine.old.tree)) batch.now) }
+    ensures tree { OnOk result (tree_in engine.new.tree ≡ batch_tree (tree_in engine.old.tree) (calls_of batch.now)) }
+    ensures rows { OnOk result (rows_of (tree_in engine.new.tree) ≡ table_after (rows_of (tree_in engine.old.tree)) batch.now) }
+    ensures lawful { IsLawful (tree_in engine.new.tree) }
 {
     laws::replies_stand_in_place();
-    let replies = run_plain(alloc, table, batch)?;
+    let replies = engine.run_list(rt, batch, BATCH as u32, WORKERS, gate, steps)?;
     print_replies(n, batch, &replies, text)?;
     print_batch(batch.len() as u32, text)
 }
 
-/// Runs a history on the empty table in batches of `BATCH` calls, offers the sink the lines of each batch whole, and
-/// answers the number of rows at the end.
+/// Runs a history on an engine in batches of `BATCH` calls, and offers the sink the lines of each batch whole.
 ///
 /// `Memory` where memory is refused, and `Write` only where the sink's count of faults rose. The sink then holds the
-/// lines of the batches before, and perhaps a front of those of the next.
-pub fn run_history<O: Sink, G: Gate + Sync>(
+/// lines of the batches before, and perhaps a front of those of the next. The engine's tree is lawful in any case.
+pub fn run_history<R: Threads + Sync, O: Sink, G: Gate + Sync, L: Ledger>(
+    rt: &R,
     alloc: Global,
+    engine: &mut Engine,
     history: &[Entry],
     out: &mut O,
     gate: &G,
-) -> Result<u64, Stop>
+    steps: &mut Steps<L>,
+) -> Result<(), Stop>
     requires few { length history.now ≤ MOST_BYTES }
     requires plain { ArePlain history.now }
-    ensures rows { IfOk result (λ rows. rows ≡ length (table_after [] history.now)) }
-    ensures text { OnOk result (Appends (O.taken out.old) (O.taken out.new) (batches_text 0 [] history.now (cut_by BATCH (length history.now)))) }
+    requires lawful { IsLawful (tree_in engine.old.tree) }
+    ensures text { OnOk result (Appends (O.taken out.old) (O.taken out.new) (batches_text 0 (rows_of (tree_in engine.old.tree)) history.now (cut_by BATCH (length history.now)))) }
+    ensures tree { OnOk result (tree_in engine.new.tree ≡ tree_after (tree_in engine.old.tree) history.now (cut_by BATCH (length history.now))) }
+    ensures rows { OnOk result (rows_of (tree_in engine.new.tree) ≡ table_after (rows_of (tree_in engine.old.tree)) history.now) }
+    ensures lawful { IsLawful (tree_in engine.new.tree) }
     ensures kept { OnOk result (O.faults out.new ≡ O.faults out.old) }
     ensures cause { IsErrOf result Stop.Write → Rose (O.faults out.old) (O.faults out.new) }
 {
-    let mut table = PlainTable::new(alloc);
     let mut text = Vec::new(alloc);
     let mut rest = history;
     let mut n = 0u64;
@@ -102,10 +119,10 @@ pub fn run_history<O: Sink, G: Gate + Sync>(
         let (batch, after) = rest.split_at(rest.len().min(BATCH));
         gate.pass(Who::Driver, n);
         text.clear();
-        run_batch(alloc, n, &mut table, batch, &mut text)?;
+        run_batch(rt, n, engine, batch, gate, steps, &mut text)?;
         write_all(out, &text)?;
         n += batch.len() as u64;
         rest = after;
     }
-    Ok(table.row_count())
+    Ok(())
 }

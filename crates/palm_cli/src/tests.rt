@@ -1,5 +1,4 @@
 use super::*;
-use crate::palm::palm;
 use palm_script::{MemSink, MemSource, SureSource};
 use std::alloc::Global;
 use std::process::Abort;
@@ -28,9 +27,21 @@ fn sink(alloc: Global, most: usize, fail: Option<u64>) -> Result<MemSink, Fail> 
     Ok(MemSink::new(alloc, 10_000, most.max(1), fails)?)
 }
 
+// Runs the program on a new engine.
+fn run<R: Threads + Sync, S: Source, O: Sink, E: Sink>(
+    rt: &R,
+    alloc: Global,
+    words: &Vec<String>,
+    src: &mut S,
+    out: &mut O,
+    err: &mut E,
+) -> u8 {
+    start::<R, S, O, E, Brand>(rt, alloc, words, src, out, err, Blank::new(1))
+}
+
 // Runs a script that is read and written without a fault, and compares the status, the transcript and what is told.
-fn replays(
-    rt: &impl Abort,
+fn replays<R: Threads + Sync + Abort>(
+    rt: &R,
     alloc: Global,
     script: &str,
     status: u8,
@@ -41,7 +52,7 @@ fn replays(
     let mut transcript = sink(alloc, 7, None)?;
     let mut told = sink(alloc, 100, None)?;
     let all = words(alloc, &["replay"])?;
-    let got = palm(alloc, &all, &mut src, &mut transcript, &mut told, &OpenGate);
+    let got = run(rt, alloc, &all, &mut src, &mut transcript, &mut told);
     assert_eq!(rt; got, status, "{script}");
     assert_eq!(rt; transcript.taken(), out.as_bytes(), "{script}");
     assert_eq!(rt; told.taken(), err.as_bytes(), "{script}");
@@ -93,10 +104,7 @@ fn other_words_are_refused(rt: HostRuntime) -> Result<(), Fail> {
         let mut src = SureSource::new(Vec::from_slice(alloc, SMALL.as_bytes())?);
         let mut out = sink(alloc, 100, None)?;
         let mut err = sink(alloc, 100, None)?;
-        assert_eq!(rt;
-            palm(alloc, all, &mut src, &mut out, &mut err, &OpenGate),
-            2
-        );
+        assert_eq!(rt; run(&rt, alloc, all, &mut src, &mut out, &mut err), 2);
         assert_eq!(rt; out.taken(), b"".as_slice());
         assert_eq!(rt; err.taken(), b"palm: usage\n".as_slice());
     }
@@ -122,7 +130,7 @@ fn each_read_fails_in_turn(rt: HostRuntime) -> Result<(), Fail> {
         let mut src = MemSource::new(Vec::from_slice(alloc, SMALL.as_bytes())?, 5, fails);
         let mut out = sink(alloc, 100, None)?;
         let mut err = sink(alloc, 100, None)?;
-        let got = palm(alloc, &all, &mut src, &mut out, &mut err, &OpenGate);
+        let got = run(&rt, alloc, &all, &mut src, &mut out, &mut err);
         assert_eq!(rt; got, status, "read {number}");
         assert_eq!(rt; out.taken(), taken.as_bytes(), "read {number}");
         assert_eq!(rt; err.taken(), told.as_bytes(), "read {number}");
@@ -145,7 +153,7 @@ fn each_write_fails_in_turn(rt: HostRuntime) -> Result<(), Fail> {
         let mut src = SureSource::new(Vec::from_slice(alloc, SMALL.as_bytes())?);
         let mut out = sink(alloc, 10, Some(number))?;
         let mut err = sink(alloc, 100, None)?;
-        let got = palm(alloc, &all, &mut src, &mut out, &mut err, &OpenGate);
+        let got = run(&rt, alloc, &all, &mut src, &mut out, &mut err);
         assert_eq!(rt; got, status, "write {number}");
         assert_eq!(rt;
             out.taken(),
@@ -164,10 +172,7 @@ fn a_full_sink_is_a_write_fault(rt: HostRuntime) -> Result<(), Fail> {
     let mut src = SureSource::new(Vec::from_slice(alloc, SMALL.as_bytes())?);
     let mut out = MemSink::new(alloc, 24, 100, Vec::new(alloc))?;
     let mut err = sink(alloc, 100, None)?;
-    assert_eq!(rt;
-        palm(alloc, &all, &mut src, &mut out, &mut err, &OpenGate),
-        5
-    );
+    assert_eq!(rt; run(&rt, alloc, &all, &mut src, &mut out, &mut err), 5);
     assert_eq!(rt; out.taken().len(), 24);
     Ok(())
 }
@@ -180,10 +185,7 @@ fn faults_of_the_error_stream_change_nothing(rt: HostRuntime) -> Result<(), Fail
     let mut src = SureSource::new(Vec::from_slice(alloc, script)?);
     let mut out = sink(alloc, 100, None)?;
     let mut err = sink(alloc, 100, Some(0))?;
-    assert_eq!(rt;
-        palm(alloc, &all, &mut src, &mut out, &mut err, &OpenGate),
-        3
-    );
+    assert_eq!(rt; run(&rt, alloc, &all, &mut src, &mut out, &mut err), 3);
     assert_eq!(rt; out.taken(), b"0 0 new\n= 1\n".as_slice());
     assert_eq!(rt; err.taken(), b"".as_slice());
     Ok(())
