@@ -1,16 +1,15 @@
-//! Batches of calls: on a plain table, a sorted list of rows that stands in for the tree, and the pass of a batch over the tree.
+//! Batches of calls over a tree: a pass of a batch's edits with the replies to its calls, and a second pass that puts the rows
+//! of removed nodes in again.
 #![tactic(auto)]
 
 mod batch;
 mod pass;
 mod passes;
-mod plain;
 mod replies;
 mod row_count;
 
-pub use batch::run_batch;
+pub use batch::{MOST_CALLS, run_batch};
 pub use pass::{Passed, run_pass};
-pub use plain::{MOST_CALLS, PlainTable, run_plain};
 pub use replies::join_answers;
 
 #[cfg(test)]

@@ -1,17 +1,23 @@
 ghost use Rattle.std.specs.Prelude.{◌≡◌, ◌<◌, ◌≤◌, length, IfOk};
 ghost use Rattle.palm_base.specs.History.{ArePlain};
 ghost use Rattle.palm_base.specs.Key.{key};
+ghost use Rattle.palm_share.specs.declared.share.TheConstants.{MOST_WORKERS};
 ghost use Rattle.palm_leaf.specs.declared.answer.LeafAnswer.TheVariants.{Old};
 
 use super::*;
 use crate::calls::{amount, del, digits, get, set};
 use crate::replies::join_answers;
-use palm_base::{Amount, Call, Digits, Entry};
+use palm_base::{Amount, Call, Digits, Entry, NoMemory, Reply, Steps};
 use palm_leaf::{LeafAnswer, PartAnswer};
 use palm_route::{Ask, Part};
+use palm_share::{MOST_WORKERS, OpenGate};
+use palm_tree::Tree;
 use std::alloc::Global;
+use std::marker::Brand;
 use std::process::Abort;
+use std::sync::ledger::{Blank, Ledger};
 use std::test::Fail;
+use std::thread::Threads;
 
 fn entries_of(rt: &impl Abort, alloc: Global, calls: &[Call]) -> Result<Vec<Entry>, Fail>
     ensures { IfOk result (λ entries. ArePlain entries.items) }
@@ -28,17 +34,64 @@ fn entries_of(rt: &impl Abort, alloc: Global, calls: &[Call]) -> Result<Vec<Entr
     Ok(entries)
 }
 
+// Runs a batch with a counter of its own.
+fn run<R: Threads + Sync, L: Ledger>(
+    rt: &R,
+    tree: &mut Tree,
+    batch: &[Entry],
+    workers: u32,
+    blank: Blank,
+) -> Result<Vec<Reply>, NoMemory>
+    requires name { blank.name ≡ L.name }
+    requires parts { blank.parts ≡ L.parts }
+    requires blank { 0 < blank.parts }
+    requires plain { ArePlain batch.now }
+    requires most { length batch.now ≤ MOST_CALLS }
+    requires some { 1 ≤ workers }
+    requires few { workers ≤ MOST_WORKERS }
+{
+    let mut steps = Steps::<L>::new(blank);
+    run_batch(rt, tree, batch, workers, &OpenGate, &mut steps)
+}
+
 // The replies to the calls, as text.
-fn asked(
-    rt: &impl Abort,
+fn asked<R: Threads + Sync + Abort>(
+    rt: &R,
     alloc: Global,
-    table: &mut PlainTable,
+    tree: &mut Tree,
     calls: &[Call],
-) -> Result<String, Fail> {
+    workers: u32,
+) -> Result<String, Fail>
+    requires some { 1 ≤ workers }
+    requires few { workers ≤ MOST_WORKERS }
+{
     let batch = entries_of(rt, alloc, calls)?;
     assert!(rt; batch.len() <= MOST_CALLS);
-    let replies = run_plain(alloc, table, &batch)?;
+    let replies = run::<R, Brand>(rt, tree, &batch, workers, Blank::new(1))?;
     Ok(format!(in alloc; "{replies:?}")?)
+}
+
+// The rows land alone, in front, at the end, and in the middle.
+fn puts(rt: &impl Abort) -> [Call; 7] {
+    [
+        set(rt, "44", 5),
+        set(rt, "2", 1),
+        set(rt, "9", 3),
+        set(rt, "441", 8),
+        set(rt, "44", 7),
+        get(rt, "44"),
+        get(rt, "4"),
+    ]
+}
+
+fn takes(rt: &impl Abort) -> [Call; 5] {
+    [
+        del(rt, "2"),
+        del(rt, "2"),
+        get(rt, "2"),
+        get(rt, "441"),
+        get(rt, "9"),
+    ]
 }
 
 #[test]
@@ -46,41 +99,26 @@ fn each_call_is_answered_on_the_table_that_the_calls_before_it_leave(
     rt: HostRuntime,
 ) -> Result<(), Fail> {
     let alloc = rt.alloc();
-    let mut table = PlainTable::new(alloc);
-    let empty = asked(&rt, alloc, &mut table, &[])?;
-    assert_eq!(rt; empty.as_str(), "[]");
-    assert_eq!(rt; table.row_count(), 0);
-
-    // The rows land alone, in front, at the end, and in the middle.
-    let calls = [
-        set(&rt, "44", 5),
-        set(&rt, "2", 1),
-        set(&rt, "9", 3),
-        set(&rt, "441", 8),
-        set(&rt, "44", 7),
-        get(&rt, "44"),
-        get(&rt, "4"),
-    ];
-    let filled = asked(&rt, alloc, &mut table, &calls)?;
-    assert_eq!(rt;
-        filled.as_str(),
-        "[New, New, New, New, Was(Amount { value: 5 }), Value(Amount { value: 7 }), Absent]"
-    );
-    assert_eq!(rt; table.row_count(), 4);
-
-    let calls = [
-        del(&rt, "2"),
-        del(&rt, "2"),
-        get(&rt, "2"),
-        get(&rt, "441"),
-        get(&rt, "9"),
-    ];
-    let emptied = asked(&rt, alloc, &mut table, &calls)?;
-    assert_eq!(rt;
-        emptied.as_str(),
-        "[Gone(Amount { value: 1 }), Absent, Absent, Value(Amount { value: 8 }), Value(Amount { value: 3 })]"
-    );
-    assert_eq!(rt; table.row_count(), 3);
+    for workers in [1, 3, MOST_WORKERS] {
+        let mut tree = Tree::new(alloc)?;
+        let empty = asked(&rt, alloc, &mut tree, &[], workers)?;
+        assert_eq!(rt; empty.as_str(), "[]", "{workers} workers");
+        assert_eq!(rt; tree.row_count(), 0, "{workers} workers");
+        let filled = asked(&rt, alloc, &mut tree, &puts(&rt), workers)?;
+        assert_eq!(rt;
+            filled.as_str(),
+            "[New, New, New, New, Was(Amount { value: 5 }), Value(Amount { value: 7 }), Absent]",
+            "{workers} workers"
+        );
+        assert_eq!(rt; tree.row_count(), 4, "{workers} workers");
+        let emptied = asked(&rt, alloc, &mut tree, &takes(&rt), workers)?;
+        assert_eq!(rt;
+            emptied.as_str(),
+            "[Gone(Amount { value: 1 }), Absent, Absent, Value(Amount { value: 8 }), Value(Amount { value: 3 })]",
+            "{workers} workers"
+        );
+        assert_eq!(rt; tree.row_count(), 3, "{workers} workers");
+    }
     Ok(())
 }
 
