@@ -30,7 +30,7 @@ use Rattle.palm_batch.proofs.RowCounts.{rows_counted}
 
 -- ---- the rows
 
-tree_table : (tree : Tree) → IsLawful tree → IsTable (rows_of tree)
+pub tree_table : (tree : Tree) → IsLawful tree → IsTable (rows_of tree)
 tree_table tree lawful = rising_is_table 0 lawful.0 (rows_of tree) (root_to tree.0 lawful.0 tree.1 lawful.1).1
 
 -- A tree's rows and a batch of at most so many calls come to a number that fits a word.

@@ -1,9 +1,12 @@
 mod AnsweredBatches
 mod ClosedTrees
 mod JoinedAnswers
+mod JoinedReplies
+mod LimitedRows
+mod ListReplies
 pub mod LevelsDone
 pub mod OpenTrees
 pub mod PassedTrees
+mod RateReplies
 mod RowCounts
-mod Scatter
 mod SecondPasses

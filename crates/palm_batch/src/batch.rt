@@ -1,7 +1,7 @@
 // A batch over a tree, as it is called from above.
 ghost use Rattle.std.specs.Prelude.{◌≡◌, ◌+◌, ◌≤◌, length, IfOk, OnOk, OnErr};
 ghost use Rattle.palm_share.specs.declared.share.TheConstants.{MOST_WORKERS};
-ghost use Rattle.palm_base.specs.History.{ArePlain, calls_of, replies_to, table_after};
+ghost use Rattle.palm_base.specs.History.{calls_of, replies_to, table_after};
 ghost use Rattle.palm_base.specs.Lawful.{IsLawful};
 ghost use Rattle.palm_base.specs.Pass.{batch_tree};
 ghost use Rattle.palm_base.specs.Tree.{rows_of};
@@ -20,9 +20,8 @@ use std::thread::Threads;
 /// The greatest number of calls in a batch.
 pub const MOST_CALLS: usize = 65_536;
 
-/// Runs a batch of Sets, Dels and Gets over a tree, with so many workers, and gives the replies in the batch's order: each
-/// is the table's at its call's place. The tree is then the serial rule's, node for node, whatever the workers and the gate.
-/// It costs a sort of the batch's parts, a way down for each, and the touched nodes; what no part touches isn't looked at.
+/// Runs a batch of calls over a tree, with so many workers, and gives the replies in the batch's order: each is the table's at
+/// its call's place. The tree is then the serial rule's, node for node, whatever the workers and the gate. It costs a sort of the batch's parts, a way down for each, and the touched nodes; what no part touches isn't looked at.
 ///
 /// `NoMemory` where room was refused. The tree is then as before, node for node and id for id.
 pub fn run_batch<R: Threads + Sync, G: Gate + Sync, L: Ledger>(
@@ -34,7 +33,6 @@ pub fn run_batch<R: Threads + Sync, G: Gate + Sync, L: Ledger>(
     steps: &mut Steps<L>,
 ) -> Result<Vec<Reply>, NoMemory>
     requires most { length batch.now ≤ MOST_CALLS }
-    requires plain { ArePlain batch.now }
     requires some { 1 ≤ workers }
     requires few { workers ≤ MOST_WORKERS }
     ensures tree { OnOk result (tree_in tree.new ≡ batch_tree (tree_in tree.old) (calls_of batch.now)) }

@@ -1,7 +1,7 @@
 // The passes of a batch over the nodes of a tree: one of its edits, with its replies, and one that puts its orphans in again.
 ghost use Rattle.std.specs.Prelude.{◌≡◌, ◌+◌, ◌≤◌, length, map, IsSome, IfOk};
 ghost use Rattle.palm_share.specs.declared.share.TheConstants.{MOST_WORKERS};
-ghost use Rattle.palm_base.specs.History.{ArePlain, calls_of, replies_to};
+ghost use Rattle.palm_base.specs.History.{calls_of, replies_to};
 ghost use Rattle.palm_base.specs.Pass.{batch_tree};
 ghost use Rattle.palm_base.specs.Tree.{Tree, rows_of};
 ghost use Rattle.palm_arena.specs.ArenaState.{NoneLent};
@@ -46,8 +46,7 @@ fn sets_of(alloc: Global, rows: &[Row]) -> Result<Vec<Entry>, NoMemory>
     Ok(rows.iter().map(set_entry).collect(alloc)?)
 }
 
-// Runs a batch of Sets, Dels and Gets over the tree at `shape`, whose arena a batch is under way in. Where memory is refused
-// it has to be rolled back.
+// Runs a batch over the tree at `shape`, whose arena a batch is under way in. Where memory is refused it has to be rolled back.
 pub(crate) fn run_passes<R: Threads + Sync, G: Gate + Sync, L: Ledger>(
     rt: &R,
     alloc: Global,
@@ -62,7 +61,6 @@ pub(crate) fn run_passes<R: Threads + Sync, G: Gate + Sync, L: Ledger>(
     requires none_lent { NoneLent arena.old.places }
     requires some { 1 ≤ workers }
     requires few { workers ≤ MOST_WORKERS }
-    requires plain { ArePlain batch.now }
     requires tree { (tree : Tree) × IsTree tree (map_of arena.old.places) shape }
     ensures tree { IfOk result (λ ran. (tree : Tree) → IsTree tree (map_of arena.old.places) shape → IsTree (batch_tree tree (calls_of batch.now)) (map_of arena.new.places) ran.shape) }
     ensures replies { IfOk result (λ ran. (tree : Tree) → IsTree tree (map_of arena.old.places) shape → ran.replies.items ≡ replies_to (rows_of tree) batch.now) }
@@ -76,7 +74,7 @@ pub(crate) fn run_passes<R: Threads + Sync, G: Gate + Sync, L: Ledger>(
         answers,
         orphans,
     } = run_pass(rt, alloc, arena, shape, batch, workers, gate, steps)?;
-    let replies = join_answers(alloc, batch, answers.as_slice())?;
+    let replies = join_answers(alloc, batch, answers)?;
     let sets = sets_of(alloc, orphans.as_slice())?;
     let Passed { shape, .. } = run_pass(rt, alloc, arena, shape, &sets, workers, gate, steps)?;
     Ok(Ran { shape, replies })

@@ -19,8 +19,8 @@ join_answers-requires-clause-answers g c =
       leaves,
       drop 1 (lows_of leaves),
       rows_of tree,
-      subst (AreAnswers leaves (drop 1 (lows_of leaves)) (rows_of tree) c.args.batch.now) (sym (c.as_slice.ensures ∙ c.in_ok-shape.ensures.answers))
-          (leaves_answer_batch nodes c.args.shape tree c.args.batch.now is.reads-as is.lawful c.requires.plain c.in_ok-shape.ensures.prefixes),
+      subst (AreAnswers leaves (drop 1 (lows_of leaves)) (rows_of tree) c.args.batch.now) (sym c.in_ok-shape.ensures.answers)
+          (leaves_answer_batch nodes c.args.shape tree c.args.batch.now is c.in_ok-shape.ensures.prefixes),
     )
 
 pub run_pass-requires-2-clause-tree : goal.run_pass-requires-2-clause-tree
@@ -29,22 +29,22 @@ run_pass-requires-2-clause-tree g c κs within = (passed_tree c.requires.tree.0 
 pub returns-in_err-shape-2-clause-ticks : goal.returns-in_err-shape-2-clause-ticks
 returns-in_err-shape-2-clause-ticks g c = λ tree is.
     both_cost tree c.args.batch.now c.deref.result.now c.in_ok-shape.field-0.orphans (map_of c.args.arena.now.places) (map_of c.run_pass.new.arena.places) c.args.shape c.in_ok-shape.field-0.shape
-    c.args.steps.now c.run_pass.new.steps c.run_pass-2.new.steps is (c.in_ok-shape.ensures.orphans tree is) (c.deref.ensures.value ∙ c.in_ok-sets.ensures ∙ ap (map set_entry) c.as_slice-2.ensures) (c.in_ok-shape.ensures.tree tree is) c.run_pass.ensures.ticks c.run_pass-2.ensures.ticks
+    c.args.steps.now c.run_pass.new.steps c.run_pass-2.new.steps is (c.in_ok-shape.ensures.orphans tree is) (c.deref.ensures.value ∙ c.in_ok-sets.ensures ∙ ap (map set_entry) c.as_slice.ensures) (c.in_ok-shape.ensures.tree tree is) c.run_pass.ensures.ticks c.run_pass-2.ensures.ticks
 
 pub returns-clause-tree : goal.returns-clause-tree
 returns-clause-tree g c = λ tree is.
     tree_run tree c.args.batch.now c.deref.result.now c.in_ok-shape.field-0.orphans (map_of c.run_pass-2.new.arena.places) c.in_ok-shape-2.field-0.shape
-    (c.in_ok-shape.ensures.orphans tree is) (c.deref.ensures.value ∙ c.in_ok-sets.ensures ∙ ap (map set_entry) c.as_slice-2.ensures) (c.in_ok-shape-2.ensures.tree (passed_tree tree (edits_in c.args.batch.now)) (c.in_ok-shape.ensures.tree tree is))
+    (c.in_ok-shape.ensures.orphans tree is) (c.deref.ensures.value ∙ c.in_ok-sets.ensures ∙ ap (map set_entry) c.as_slice.ensures) (c.in_ok-shape-2.ensures.tree (passed_tree tree (edits_in c.args.batch.now)) (c.in_ok-shape.ensures.tree tree is))
 
 pub returns-clause-replies : goal.returns-clause-replies
 returns-clause-replies g c = λ tree is.
     let nodes = map_of c.args.arena.now.places in
     let leaves = leaves_at nodes c.args.shape in
     c.in_ok-replies.ensures.replies leaves (drop 1 (lows_of leaves)) (rows_of tree)
-    (subst (AreAnswers leaves (drop 1 (lows_of leaves)) (rows_of tree) c.args.batch.now) (sym (c.as_slice.ensures ∙ c.in_ok-shape.ensures.answers))
-    (leaves_answer_batch nodes c.args.shape tree c.args.batch.now is.reads-as is.lawful c.requires.plain c.in_ok-shape.ensures.prefixes))
+    (subst (AreAnswers leaves (drop 1 (lows_of leaves)) (rows_of tree) c.args.batch.now) (sym c.in_ok-shape.ensures.answers)
+    (leaves_answer_batch nodes c.args.shape tree c.args.batch.now is c.in_ok-shape.ensures.prefixes))
 
 pub returns-clause-ticks : goal.returns-clause-ticks
 returns-clause-ticks g c = λ tree is.
     both_cost tree c.args.batch.now c.deref.result.now c.in_ok-shape.field-0.orphans (map_of c.args.arena.now.places) (map_of c.run_pass.new.arena.places) c.args.shape c.in_ok-shape.field-0.shape
-    c.args.steps.now c.run_pass.new.steps c.run_pass-2.new.steps is (c.in_ok-shape.ensures.orphans tree is) (c.deref.ensures.value ∙ c.in_ok-sets.ensures ∙ ap (map set_entry) c.as_slice-2.ensures) (c.in_ok-shape.ensures.tree tree is) c.run_pass.ensures.ticks c.run_pass-2.ensures.ticks
+    c.args.steps.now c.run_pass.new.steps c.run_pass-2.new.steps is (c.in_ok-shape.ensures.orphans tree is) (c.deref.ensures.value ∙ c.in_ok-sets.ensures ∙ ap (map set_entry) c.as_slice.ensures) (c.in_ok-shape.ensures.tree tree is) c.run_pass.ensures.ticks c.run_pass-2.ensures.ticks
