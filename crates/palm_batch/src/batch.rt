@@ -21,7 +21,8 @@ use std::thread::Threads;
 pub const MOST_CALLS: usize = 65_536;
 
 /// Runs a batch of calls over a tree, with so many workers, and gives the replies in the batch's order: each is the table's at
-/// its call's place. The tree is then the serial rule's, node for node, whatever the workers and the gate. It costs a sort of the batch's parts, a way down for each, and the touched nodes; what no part touches isn't looked at.
+/// its call's place. The tree is then the serial rule's, node for node, whatever the workers and the gate. It costs a sort of
+/// the batch's parts, a way down for each, and the touched nodes; what no part touches isn't looked at.
 ///
 /// `NoMemory` where room was refused. The tree is then as before, node for node and id for id.
 pub fn run_batch<R: Threads + Sync, G: Gate + Sync, L: Ledger>(

@@ -1,6 +1,6 @@
 ghost use Rattle.std.specs.Prelude.{◌≡◌, ◌+◌, ◌≤◌, ◌++◌, length, OnOk, IsErrOf};
 ghost use Rattle.std.specs.Io.KnownBytes.{Appends};
-ghost use Rattle.palm_base.specs.History.{ArePlain, calls_of, table_after};
+ghost use Rattle.palm_base.specs.History.{calls_of, table_after};
 ghost use Rattle.palm_base.specs.Lawful.{IsLawful};
 ghost use Rattle.palm_base.specs.Pass.{batch_tree, tree_after};
 ghost use Rattle.palm_base.specs.Tree.{rows_of};
@@ -77,7 +77,6 @@ fn run_batch<R: Threads + Sync, G: Gate + Sync, L: Ledger>(
 ) -> Result<(), NoMemory>
     requires most { length batch.now ≤ BATCH }
     requires fits { n + length batch.now ≤ MOST_BYTES }
-    requires plain { ArePlain batch.now }
     ensures text { OnOk result (text.new.items ≡ text.old.items ++ batch_text n (rows_of (tree_in engine.old.tree)) batch.now) }
     ensures tree { OnOk result (tree_in engine.new.tree ≡ batch_tree (tree_in engine.old.tree) (calls_of batch.now)) }
     ensures rows { OnOk result (rows_of (tree_in engine.new.tree) ≡ table_after (rows_of (tree_in engine.old.tree)) batch.now) }
@@ -103,7 +102,6 @@ pub fn run_history<R: Threads + Sync, O: Sink, G: Gate + Sync, L: Ledger>(
     steps: &mut Steps<L>,
 ) -> Result<(), Stop>
     requires few { length history.now ≤ MOST_BYTES }
-    requires plain { ArePlain history.now }
     requires lawful { IsLawful (tree_in engine.old.tree) }
     ensures text { OnOk result (Appends (O.taken out.old) (O.taken out.new) (batches_text 0 (rows_of (tree_in engine.old.tree)) history.now (cut_by BATCH (length history.now)))) }
     ensures tree { OnOk result (tree_in engine.new.tree ≡ tree_after (tree_in engine.old.tree) history.now (cut_by BATCH (length history.now))) }

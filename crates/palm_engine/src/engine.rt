@@ -1,7 +1,7 @@
 ghost use Rattle.std.specs.Prelude.{◌≡◌, ◌+◌, ◌≤◌, [], length, take, IfOk, OnOk, OnErr};
 ghost use Rattle.std.proofs.Common.{zero};
 ghost use Rattle.palm_share.specs.declared.share.TheConstants.{MOST_WORKERS};
-ghost use Rattle.palm_base.specs.History.{ArePlain, calls_of, replies_to, table_after};
+ghost use Rattle.palm_base.specs.History.{calls_of, replies_to, table_after};
 ghost use Rattle.palm_base.specs.Lawful.{IsLawful};
 ghost use Rattle.palm_base.specs.Pass.{batch_tree};
 ghost use Rattle.palm_base.specs.Tree.{rows_of};
@@ -50,7 +50,6 @@ impl Engine {
     ) -> Result<Vec<Reply>, NoMemory>
         requires one { 1 ≤ max }
         requires most { max ≤ MOST_CALLS }
-        requires plain { ArePlain roll.now }
         requires some { 1 ≤ workers }
         requires few { workers ≤ MOST_WORKERS }
         ensures tree { OnOk result (tree_in self.new.tree ≡ batch_tree (tree_in self.old.tree) (calls_of (take max roll.now))) }

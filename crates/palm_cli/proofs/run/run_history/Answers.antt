@@ -1,9 +1,7 @@
 use Rattle.std.proofs.Common.{◌≡◌, ◌<◌, ◌++◌, length, take, drop, min, arith, ap, ◌∙◌}
 use Rattle.std.proofs.KnownBytes.{Appends-trans}
 use Rattle.std.proofs.lemmas.List.{take-append-drop}
-use Rattle.std.proofs.lemmas.List.Elements.{All-drop}
 use Rattle.std.specs.Io.KnownBytes.{Appends}
-use Rattle.palm_base.specs.Table.{IsPlain}
 use Rattle.palm_base.specs.Tree.{rows_of}
 use Rattle.palm_tree.specs.TreeValue.{tree_in}
 use Rattle.palm_script.specs.Transcript.{batch_text}
@@ -35,6 +33,5 @@ loop-rest-preserved g c =
       lawful = c.run_batch.ensures.lawful;
       rows = rw (c.in_ok-run_batch.ensures.rows, ← table_after-append (rows_of now) batch left, front, back, take-append-drop k rest) c.loop-rest.invariant.rows;
       place = omega (arith, c.loop-rest.invariant.place, c.split_at.ensures.front_len, c.split_at.ensures.back_len);
-      plain = rw back (All-drop (λ e. IsPlain e.call) k rest c.loop-rest.invariant.plain);
       faults = c.in_ok-write_all.ensures.cause.kept ∙ c.loop-rest.invariant.faults;
     }

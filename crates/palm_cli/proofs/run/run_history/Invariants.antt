@@ -1,6 +1,6 @@
 use Rattle.std.proofs.Common.{◌≡◌, ℕ, ◌+◌, ◌++◌, List, length}
 use Rattle.std.specs.Io.KnownBytes.{Appends}
-use Rattle.palm_base.specs.History.{ArePlain, table_after}
+use Rattle.palm_base.specs.History.{table_after}
 use Rattle.palm_base.specs.Lawful.{IsLawful}
 use Rattle.palm_base.specs.Pass.{tree_after}
 use Rattle.palm_base.specs.Tree.{rows_of}
@@ -23,7 +23,6 @@ invariant-loop-rest g l =
       rows : table_after (rows_of now) l.rest ≡ table_after (rows_of first) l.history;
       lawful : IsLawful now;
       place : l.n + length l.rest ≡ length l.history;
-      plain : ArePlain l.rest;
       faults : faults l.out ≡ faults l.fn.out;
     }
 
