@@ -1,0 +1,51 @@
+use super::*;
+use std::alloc::{AllocError, Global};
+use std::test::Fail;
+
+fn words(alloc: Global, texts: &[&str]) -> Result<Vec<String>, AllocError> {
+    texts
+        .iter()
+        .map(|text| String::from_str(alloc, text))
+        .try_collect(alloc)
+}
+
+#[test]
+fn words_of_another_form_plan_nothing(rt: HostRuntime) -> Result<(), Fail> {
+    let cases: [&[&str]; 7] = [
+        &[],
+        &["load", "1", "1"],
+        &["load", "1", "1", "1", "1"],
+        &["dels", "1", "1", "1"],
+        &["load", "100000001", "1", "1"],
+        &["load", "1", "65537", "1"],
+        &["load", "1", "1", "0"],
+    ];
+    for texts in cases {
+        assert!(rt;
+            plan::read(&words(rt.alloc(), texts)?).is_none(),
+            "{texts:?}"
+        );
+    }
+    Ok(())
+}
+
+// The sums are those that bench/map.rs prints.
+#[test]
+fn every_cutting_gives_the_replies_of_an_ordinary_map(rt: HostRuntime) -> Result<(), Fail> {
+    let cases = [
+        ("load", 300, 0x03b8_ad66_bcfe_5ac0),
+        ("sets", 413, 0xb336_4e00_4587_eb83),
+        ("edits", 300, 0xe486_6efa_23d6_0116),
+        ("gets", 300, 0x7629_f06c_0ca1_2a08),
+    ];
+    for (kind, rows, sum) in cases {
+        for (batch, workers) in [("1", "1"), ("7", "3"), ("64", "1"), ("300", "64")] {
+            let texts = words(rt.alloc(), &[kind, "300", batch, workers])?;
+            let plan = plan::read(&texts).expect(&rt, "a plan");
+            let outcome = run::<_, Brand>(&rt, rt.alloc(), plan, Blank::new(1))?;
+            assert_eq!(rt; outcome.rows, rows, "{kind} in batches of {batch}");
+            assert_eq!(rt; outcome.sum, sum, "{kind} in batches of {batch}");
+        }
+    }
+    Ok(())
+}
