@@ -1,7 +1,6 @@
 // The calls of a run, made one after another. The table is loaded with every other number from `FIRST` on, so that the numbers
 // between them are new prefixes all over the table.
-ghost use Rattle.std.specs.Prelude.{◌≡◌, ◌<◌, ◌≤◌, IfSome};
-ghost use Rattle.palm_base.specs.Table.{IsPlain};
+ghost use Rattle.std.specs.Prelude.{◌≡◌, ◌<◌, ◌≤◌};
 
 use palm_base::{Amount, Call, Digits};
 
@@ -51,7 +50,6 @@ fn prefix_of(number: u64) -> Option<Digits> {
 }
 
 fn set(number: u64, rate: u64) -> Option<Call>
-    ensures { IfSome result IsPlain }
 {
     let prefix = prefix_of(number)?;
     let rate = Amount::new(rate % 1_000)?;
@@ -59,14 +57,12 @@ fn set(number: u64, rate: u64) -> Option<Call>
 }
 
 fn del(number: u64) -> Option<Call>
-    ensures { IfSome result IsPlain }
 {
     let prefix = prefix_of(number)?;
     Some(Call::Del { prefix })
 }
 
 fn get(number: u64) -> Option<Call>
-    ensures { IfSome result IsPlain }
 {
     let prefix = prefix_of(number)?;
     Some(Call::Get { prefix })
@@ -98,8 +94,7 @@ impl Feed {
 
     // The edit with this number among all calls.
     fn edit(&mut self, turn: u64) -> Option<Call>
-        ensures { IfSome result IsPlain }
-    {
+        {
         if turn % RUN == 0 {
             self.start = self.draw() / 2;
         }
@@ -113,8 +108,7 @@ impl Feed {
 
     /// The next call. All are there whose prefixes have nine digits.
     pub fn next(&mut self) -> Option<Call>
-        ensures { IfSome result IsPlain }
-    {
+        {
         let turn = self.made;
         self.made = turn.wrapping_add(1);
         match self.kind {

@@ -1,6 +1,5 @@
 // A run: its calls are made and run batch by batch, in one list of entries.
-ghost use Rattle.std.specs.Prelude.{◌≡◌, ◌≤◌, ◌<◌, [], OnOk};
-ghost use Rattle.palm_base.specs.History.{ArePlain};
+ghost use Rattle.std.specs.Prelude.{◌≡◌, ◌≤◌, ◌<◌};
 
 use crate::feed::{Feed, Kind};
 use crate::plan::Plan;
@@ -39,7 +38,6 @@ fn add(sum: u64, reply: &Reply) -> u64 {
 
 // Makes the next calls in place of those of the batch before.
 fn fill(feed: &mut Feed, count: u64, batch: &mut Vec<Entry>) -> Result<(), NoMemory>
-    ensures { OnOk result (ArePlain batch.new.items) }
 {
     batch.clear();
     for place in 0..count {

@@ -15,6 +15,9 @@ use rayon::prelude::*;
 use std::alloc::{AllocError, Global};
 use std::thread::Threads;
 
+// From so many marks on several threads sort them.
+const MANY_MARKS: usize = 16_384;
+
 // Where a part stands, and where the range of its leaf begins. Marks are sorted in place of parts, which are many times as
 // wide.
 #[derive(Clone, Copy, Drop)]
@@ -27,7 +30,7 @@ struct Mark {
 fn marks_of(alloc: Global, routed: &[Routed]) -> Result<Vec<Mark>, NoMemory>
     ensures { IfOk result (λ marks. marks.items ≡ marks_from 0 routed.now) }
 {
-    let mut marks = Vec::new(alloc);
+    let mut marks = Vec::with_capacity(alloc, routed.len())?;
     for (place, one) in routed.iter().enumerate() {
         marks.push(Mark {
             low: one.low,
@@ -37,14 +40,38 @@ fn marks_of(alloc: Global, routed: &[Routed]) -> Result<Vec<Mark>, NoMemory>
     Ok(marks)
 }
 
-// Sorts marks by leaf, and keeps those of a leaf in their order.
-fn sort<R: Threads + Sync>(rt: &R, alloc: Global, marks: &mut [Mark]) -> Result<(), AllocError>
+// Sorts marks by leaf in this thread, and keeps those of a leaf in their order.
+fn sort_few(alloc: Global, marks: &mut [Mark]) -> Result<(), AllocError>
+    ensures len { length marks.new ≡ length marks.old }
+    ensures permutation { IsPermutation marks.old marks.new }
+    ensures sorted { OnOk result (IsSortedByKey (λ mark. mark.low) nat_cmp marks.new) }
+    ensures stable { IsStableByKey (λ mark. mark.low) nat_cmp marks.old marks.new }
+{
+    marks.sort_by_key(alloc, |mark| mark.low)
+}
+
+// The same, by several threads.
+fn sort_many<R: Threads + Sync>(rt: &R, alloc: Global, marks: &mut [Mark]) -> Result<(), AllocError>
     ensures len { length marks.new ≡ length marks.old }
     ensures permutation { IsPermutation marks.old marks.new }
     ensures sorted { OnOk result (IsSortedByKey (λ mark. mark.low) nat_cmp marks.new) }
     ensures stable { IsStableByKey (λ mark. mark.low) nat_cmp marks.old marks.new }
 {
     par_sort_by_key(rt, alloc, marks, |mark| mark.low)
+}
+
+// The same. Several threads are asked only where there are many marks: asking the system how many there may be takes longer
+// than a sort of a few.
+fn sort<R: Threads + Sync>(rt: &R, alloc: Global, marks: &mut [Mark]) -> Result<(), AllocError>
+    ensures len { length marks.new ≡ length marks.old }
+    ensures permutation { IsPermutation marks.old marks.new }
+    ensures sorted { OnOk result (IsSortedByKey (λ mark. mark.low) nat_cmp marks.new) }
+    ensures stable { IsStableByKey (λ mark. mark.low) nat_cmp marks.old marks.new }
+{
+    if marks.len() < MANY_MARKS {
+        return sort_few(alloc, marks);
+    }
+    sort_many(rt, alloc, marks)
 }
 
 // A group of one part.

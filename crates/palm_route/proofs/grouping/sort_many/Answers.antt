@@ -3,7 +3,7 @@ use Rattle.std.specs.List.Sorted.{IsSortedByKeyClosure}
 use Rattle.std.specs.Ordering.{nat_cmp}
 use Rattle.std.proofs.lemmas.Result.{on_ok_weaker}
 use Rattle.std.proofs.lemmas.List.Sorted.{answers_always}
-use Rattle.palm_route.proofs.grouping.sort.Goals as goal
+use Rattle.palm_route.proofs.grouping.sort_many.Goals as goal
 
 pub returns-clause-sorted : goal.returns-clause-sorted
 returns-clause-sorted g c =
