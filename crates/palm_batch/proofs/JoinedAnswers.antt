@@ -1,5 +1,5 @@
 -- What the leaves of a tree answer the parts of a batch makes, joined by entry, the replies to the batch.
-use Rattle.std.proofs.Common.{◌≡◌, ℕ, zero, suc, ◌+◌, ◌<◌, ◌≤◌, List, [], ◌∷◌, ◌++◌, length, get_or, refl, sym, ap, subst, ◌∙◌, arith, inl, inr, ◌⊎◌}
+use Rattle.std.proofs.Common.{◌≡◌, ℕ, suc, ◌+◌, ◌<◌, ◌≤◌, List, [], ◌∷◌, ◌++◌, length, get_or, refl, sym, ap, subst, ◌∙◌, arith, inl, inr, ◌⊎◌}
 use Rattle.std.specs.List.{fold, AllByRecursion}
 use Rattle.std.proofs.lemmas.Bool.{eq-eqb, ne_eqb, cases_eq}
 use Rattle.std.proofs.lemmas.List.{append-nil}
@@ -220,7 +220,7 @@ module _ (places : List LeafPlace) (lows : List ℕ) where
   answers_joined begin rise rows first (entry ∷ entries) table prefixes edits rates answers same =
       let own = same first (omega arith) ∙ to_first rows first entry entries edits.0 in
       let later = answers_joined begin rise (after rows entry.call) (suc first) entries (calls_keep_tables rows entry.call table) (call_prefixes rows entry.call edits.0 prefixes) edits.1 rates.1 answers
-          (λ place less. same place (omega (arith, less)) ∙ to_later rows first entry entries place edits.0 (λ e. omega (arith, e, less))) in
+      (λ place less. same place (omega (arith, less)) ∙ to_later rows first entry entries place edits.0 (λ e. omega (arith, e, less))) in
       ap (λ reply. reply ∷ replies_joined (suc first) entries answers) (ap (reply_joined entry.call) own ∙ call_joined places lows rows first entry.call begin rise table prefixes rates.0)
       ∙ ap (λ (replies : List Reply). answer rows entry.call ∷ replies) later
 

@@ -1,6 +1,6 @@
 -- The replies that answers make, one answer more at a time.
-use Rattle.std.proofs.Common.{◌≡◌, ℕ, zero, suc, ◌+◌, ◌<◌, ◌≤◌, List, [], ◌∷◌, ◌++◌, length, map, get_or, set, take, refl, sym, ap, subst, ◌∙◌, arith}
-use Rattle.std.specs.List.{fold, AllByRecursion}
+use Rattle.std.proofs.Common.{◌≡◌, ℕ, zero, suc, ◌+◌, ◌<◌, List, [], ◌∷◌, ◌++◌, length, map, get_or, set, refl, sym, ap, subst, ◌∙◌, arith}
+use Rattle.std.specs.List.{fold}
 use Rattle.std.proofs.lemmas.Bool.{eq-eqb, ne_eqb}
 use Rattle.std.proofs.lemmas.List.{append-nil}
 use Rattle.std.proofs.lemmas.List.Elements.{filter-append}
@@ -15,7 +15,7 @@ use Rattle.palm_tree.proofs.Limits.{take_short}
 use Rattle.palm_leaf.specs.declared.answer.LeafAnswer.{LeafAnswer}
 use Rattle.palm_leaf.specs.declared.answer.LeafAnswer.TheVariants.{Old, Found}
 use Rattle.palm_leaf.specs.declared.answer.PartAnswer.{PartAnswer}
-use Rattle.palm_batch.specs.Replies.{unanswered, with_more, with_answer, joined, reply_joined, answers_to, replies_joined, FitsEntry, IsRows, IsSoFar}
+use Rattle.palm_batch.specs.Replies.{unanswered, with_more, with_answer, joined, reply_joined, answers_to, replies_joined, IsRows, IsSoFar}
 
 -- ---- a List's reply is rows
 

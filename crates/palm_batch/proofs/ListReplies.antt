@@ -1,5 +1,5 @@
 -- The answers of the leaves that a List meets make the table's reply.
-use Rattle.std.proofs.Common.{◌≡◌, ℕ, zero, suc, ◌+◌, ◌<◌, ◌≤◌, Bool, true, false, cond, ltb, leb, eqb, ◌&&◌, List, [], ◌∷◌, ◌++◌, length, map, take, refl, sym, ap, ◌∙◌, append_assoc, subst, arith, ◌⊎◌, inl, inr}
+use Rattle.std.proofs.Common.{◌≡◌, ℕ, suc, ◌<◌, ◌≤◌, Bool, true, false, cond, ltb, leb, eqb, ◌&&◌, List, [], ◌∷◌, ◌++◌, take, refl, sym, ap, ◌∙◌, append_assoc, arith, ◌⊎◌, inl, inr}
 use Rattle.std.specs.List.{fold, filter, flat_map, AllByRecursion}
 use Rattle.std.proofs.lemmas.Bool.{cases_lt, lt-ltb, le-ltb, lt-leb, le-leb, ne_eqb, ltb-true, leb-true}
 use Rattle.std.proofs.lemmas.Bool.Decides.{nat_tests}
@@ -9,10 +9,9 @@ use Rattle.palm_base.specs.Key.{key}
 use Rattle.palm_base.specs.Table.{row_key, lies_within, IsTable, answer}
 use Rattle.palm_base.specs.declared.row.Row.{Row}
 use Rattle.palm_base.specs.declared.call.Call.TheVariants.{List as Listing}
-use Rattle.palm_base.specs.declared.call.Reply.{Reply}
 use Rattle.palm_base.specs.declared.call.Reply.TheVariants.{Rows}
 use Rattle.palm_base.proofs.Every.{every_weaker, every_filter}
-use Rattle.palm_base.proofs.TableSplits.{Under, From}
+use Rattle.palm_base.proofs.TableSplits.{From}
 use Rattle.palm_base.proofs.Tables.{filter_keeps}
 use Rattle.palm_tree.proofs.Limits.{one_more}
 use Rattle.palm_tree.proofs.Ranges.{within-from}

@@ -1,5 +1,6 @@
 // Calls as tests write them.
-use palm_base::{Amount, Call, Digits, Limit};
+use palm_base::{Amount, Call, Digits, Entry, Limit, NoMemory};
+use std::alloc::Global;
 use std::process::Abort;
 
 pub fn digits(rt: &impl Abort, text: &str) -> Digits {
@@ -29,10 +30,29 @@ pub fn get(rt: &impl Abort, prefix: &str) -> Call {
     }
 }
 
+pub fn rate(rt: &impl Abort, number: &str) -> Call {
+    Call::Rate {
+        number: digits(rt, number),
+    }
+}
+
 pub fn list(rt: &impl Abort, from: &str, to: &str, limit: u32) -> Call {
     Call::List {
         from: digits(rt, from),
         to: digits(rt, to),
         limit: Limit::new(limit).expect(rt, "a limit"),
     }
+}
+
+// One caller's calls, in order.
+pub fn entries(alloc: Global, calls: &[Call]) -> Result<Vec<Entry>, NoMemory> {
+    let mut entries = Vec::with_capacity(alloc, calls.len())?;
+    for (place, call) in calls.iter().enumerate() {
+        entries.push(Entry {
+            caller: 0,
+            place: place as u64,
+            call: *call,
+        })?;
+    }
+    Ok(entries)
 }

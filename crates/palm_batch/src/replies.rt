@@ -108,11 +108,7 @@ fn join_answer(call: &Call, answer: PartAnswer, reply: &mut Reply) -> Result<(),
 }
 
 // Joins each answer to the reply at the place of its entry.
-fn join_all(
-    batch: &[Entry],
-    answers: AnswerList,
-    replies: &mut [Reply],
-) -> Result<(), NoMemory>
+fn join_all(batch: &[Entry], answers: AnswerList, replies: &mut [Reply]) -> Result<(), NoMemory>
     requires begun { replies.old ≡ map (λ entry. unanswered entry.call) batch.now }
     requires fit { AllByRecursion (FitsEntry batch.now) answers }
     ensures ok { OnOk result (replies.new ≡ replies_joined 0 batch.now answers) }

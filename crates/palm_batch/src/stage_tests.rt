@@ -3,7 +3,7 @@ ghost use Rattle.std.specs.Prelude.{◌≡◌, ◌<◌, ◌≤◌};
 ghost use Rattle.palm_base.specs.Table.{IsTable};
 ghost use Rattle.palm_share.specs.declared.share.TheConstants.{MOST_WORKERS};
 
-use crate::calls::{amount, del, digits, get, list, set};
+use crate::calls::{amount, del, digits, entries, get, list, set};
 use crate::pass::{Passed, change_levels, route, run_pass};
 use palm_base::{Call, Entry, NoMemory, Row, RowList, Steps};
 use palm_leaf::{LeafAnswer, LeafOutcome, change_leaves};
@@ -19,18 +19,6 @@ use std::sync::ledger::{Blank, Ledger};
 use std::test::Fail;
 use std::thread::Threads;
 
-fn entries(alloc: Global, calls: &[Call]) -> Result<Vec<Entry>, NoMemory> {
-    let mut entries = Vec::with_capacity(alloc, calls.len())?;
-    for (place, call) in calls.iter().enumerate() {
-        entries.push(Entry {
-            caller: 0,
-            place: place as u64,
-            call: *call,
-        })?;
-    }
-    Ok(entries)
-}
-
 fn assert_rise(rt: &impl Abort, rows: &[Row])
     ensures { IsTable rows.now }
 {
@@ -40,7 +28,7 @@ fn assert_rise(rt: &impl Abort, rows: &[Row])
 }
 
 // The tree that is built from the rows of these numbers, each at itself as its rate.
-fn built(rt: &impl Abort, alloc: Global, from: u64, to: u64) -> Result<Tree, Fail> {
+pub fn built(rt: &impl Abort, alloc: Global, from: u64, to: u64) -> Result<Tree, Fail> {
     let mut rows = RowList::new(alloc);
     for number in from..=to {
         let text = format!(in alloc; "{number}")?;

@@ -1,14 +1,15 @@
 ghost use Rattle.std.specs.Prelude.{◌≡◌, ◌<◌, ◌≤◌, length, IfOk};
-ghost use Rattle.palm_base.specs.History.{ArePlain};
 ghost use Rattle.palm_base.specs.Key.{key};
 ghost use Rattle.palm_share.specs.declared.share.TheConstants.{MOST_WORKERS};
 ghost use Rattle.palm_leaf.specs.declared.answer.LeafAnswer.TheVariants.{Old};
 
 use super::*;
-use crate::calls::{amount, del, digits, get, set};
+use crate::calls::{amount, del, digits, entries, get, list, rate, set};
 use crate::replies::join_answers;
+use crate::stage_tests::built;
+use palm_base::text::{append, append_rate, append_row, append_rows};
 use palm_base::{Amount, Call, Digits, Entry, NoMemory, Reply, Steps};
-use palm_leaf::{LeafAnswer, PartAnswer};
+use palm_leaf::{AnswerList, LeafAnswer, PartAnswer};
 use palm_route::{Ask, Part};
 use palm_share::{MOST_WORKERS, OpenGate};
 use palm_tree::Tree;
@@ -18,21 +19,6 @@ use std::process::Abort;
 use std::sync::ledger::{Blank, Ledger};
 use std::test::Fail;
 use std::thread::Threads;
-
-fn entries_of(rt: &impl Abort, alloc: Global, calls: &[Call]) -> Result<Vec<Entry>, Fail>
-    ensures { IfOk result (λ entries. ArePlain entries.items) }
-{
-    let mut entries = Vec::new(alloc);
-    for call in calls {
-        assert!(rt; !matches!(call, Call::Rate { .. } | Call::List { .. }));
-        entries.push(Entry {
-            caller: 0,
-            place: 0,
-            call: *call,
-        })?;
-    }
-    Ok(entries)
-}
 
 // Runs a batch with a counter of its own.
 fn run<R: Threads + Sync, L: Ledger>(
@@ -45,13 +31,28 @@ fn run<R: Threads + Sync, L: Ledger>(
     requires name { blank.name ≡ L.name }
     requires parts { blank.parts ≡ L.parts }
     requires blank { 0 < blank.parts }
-    requires plain { ArePlain batch.now }
     requires most { length batch.now ≤ MOST_CALLS }
     requires some { 1 ≤ workers }
     requires few { workers ≤ MOST_WORKERS }
 {
     let mut steps = Steps::<L>::new(blank);
     run_batch(rt, tree, batch, workers, &OpenGate, &mut steps)
+}
+
+fn replied<R: Threads + Sync + Abort>(
+    rt: &R,
+    alloc: Global,
+    tree: &mut Tree,
+    calls: &[Call],
+    workers: u32,
+) -> Result<Vec<Reply>, Fail>
+    requires some { 1 ≤ workers }
+    requires few { workers ≤ MOST_WORKERS }
+{
+    let batch = entries(alloc, calls)?;
+    assert!(rt; batch.len() <= MOST_CALLS);
+    let replies = run::<R, Brand>(rt, tree, &batch, workers, Blank::new(1))?;
+    Ok(replies)
 }
 
 // The replies to the calls, as text.
@@ -65,9 +66,7 @@ fn asked<R: Threads + Sync + Abort>(
     requires some { 1 ≤ workers }
     requires few { workers ≤ MOST_WORKERS }
 {
-    let batch = entries_of(rt, alloc, calls)?;
-    assert!(rt; batch.len() <= MOST_CALLS);
-    let replies = run::<R, Brand>(rt, tree, &batch, workers, Blank::new(1))?;
+    let replies = replied(rt, alloc, tree, calls, workers)?;
     Ok(format!(in alloc; "{replies:?}")?)
 }
 
@@ -122,6 +121,74 @@ fn each_call_is_answered_on_the_table_that_the_calls_before_it_leave(
     Ok(())
 }
 
+fn append_reply(reply: &Reply, out: &mut Vec<u8>) -> Result<(), NoMemory> {
+    match reply {
+        Reply::New => append(b"new", out),
+        Reply::Was(rate) => append_rate(b"was ", rate, out),
+        Reply::Gone(rate) => append_rate(b"gone ", rate, out),
+        Reply::Absent => append(b"absent", out),
+        Reply::Value(rate) => append_rate(b"value ", rate, out),
+        Reply::Hit(row) => {
+            append(b"hit ", out)?;
+            append_row(row, out)
+        }
+        Reply::Rows(rows) => {
+            append(b"rows ", out)?;
+            append_rows(rows, out)
+        }
+    }
+}
+
+// The replies in a row, each with a mark behind it.
+fn shown(alloc: Global, replies: &[Reply]) -> Result<Vec<u8>, NoMemory> {
+    let mut out = Vec::new(alloc);
+    for reply in replies {
+        append_reply(reply, &mut out)?;
+        append(b";", &mut out)?;
+    }
+    Ok(out)
+}
+
+// The tree of 10 to 26 has the leaves of 10 to 18 and of 19 to 26. The fronts 1 and 19 of a number go to both.
+fn rates_and_lists(rt: &impl Abort) -> [Call; 14] {
+    [
+        list(rt, "17", "20", 100),
+        rate(rt, "199"),
+        set(rt, "1", 1),
+        rate(rt, "199"),
+        del(rt, "19"),
+        rate(rt, "199"),
+        list(rt, "17", "20", 100),
+        set(rt, "175", 5),
+        rate(rt, "1755"),
+        list(rt, "17", "20", 1),
+        list(rt, "15", "26", 9),
+        list(rt, "26", "10", 100),
+        rate(rt, "9"),
+        list(rt, "0", "99", 100),
+    ]
+}
+
+const RATED_AND_LISTED: &[u8] =
+    b"rows 4 17 17 18 18 19 19 20 20;hit 19 19;new;hit 19 19;gone 19;hit 1 1;rows 3 17 17 18 18 20 20;new;hit 175 5;rows 1 17 17;\
+rows 9 15 15 16 16 17 17 175 5 18 18 20 20 21 21 22 22 23 23;rows 0;absent;\
+rows 18 1 1 10 10 11 11 12 12 13 13 14 14 15 15 16 16 17 17 175 5 18 18 20 20 21 21 22 22 23 23 24 24 25 25 26 26;";
+
+#[test]
+fn rates_and_lists_are_answered_on_the_table_that_the_calls_before_them_leave(
+    rt: HostRuntime,
+) -> Result<(), Fail> {
+    let alloc = rt.alloc();
+    for workers in [1, 3, MOST_WORKERS] {
+        let mut tree = built(&rt, alloc, 10, 26)?;
+        let replies = replied(&rt, alloc, &mut tree, &rates_and_lists(&rt), workers)?;
+        let told = shown(alloc, &replies)?;
+        assert!(rt; told.as_slice() == RATED_AND_LISTED, "{workers} workers");
+        assert_eq!(rt; tree.row_count(), 18, "{workers} workers");
+    }
+    Ok(())
+}
+
 fn entry(call: Call) -> Entry
     ensures { result ≡ record { caller = 0; place = 0; call = call } }
 {
@@ -165,12 +232,11 @@ fn replies_stand_at_their_entries_whatever_leaf_answers(rt: HostRuntime) -> Resu
         entry(Call::Get { prefix: low }),
         entry(Call::Get { prefix: high }),
     ];
-    let answers = [
-        part_answer(1, low.key(), Ask::Look, None),
-        part_answer(0, high.key(), Ask::Set(rate), None),
-        part_answer(2, high.key(), Ask::Look, Some(rate)),
-    ];
-    let replies = join_answers(alloc, &batch, &answers)?;
+    let mut answers = AnswerList::new(alloc);
+    answers.push(part_answer(1, low.key(), Ask::Look, None))?;
+    answers.push(part_answer(0, high.key(), Ask::Set(rate), None))?;
+    answers.push(part_answer(2, high.key(), Ask::Look, Some(rate)))?;
+    let replies = join_answers(alloc, &batch, answers)?;
     let told = format!(in alloc; "{replies:?}")?;
     assert_eq!(rt; told.as_str(), "[New, Absent, Value(Amount { value: 5 })]");
     Ok(())

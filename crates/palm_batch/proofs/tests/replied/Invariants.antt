@@ -1,4 +1,4 @@
-use Rattle.palm_batch.proofs.tests.asked.Given as goal
+use Rattle.palm_batch.proofs.tests.replied.Given as goal
 
 -- the counter is that of the blank
 abbrev pub ghosts-run : goal.ghosts-run
