@@ -60,6 +60,7 @@ with_found (Get prefix) found reply = reply
 with_found (Rate number) found reply = reply
 with_found (Listing from to limit) found reply = with_more limit found reply
 
+-- The reply to a call of which one more part, by this key, is answered so.
 abbrev pub with_answer : Call → ℕ → LeafAnswer → Reply → Reply
 with_answer call k (Old old) reply = with_rate call k old reply
 with_answer call k (Found found) reply = with_found call found reply

@@ -19,6 +19,7 @@ fn begin_reply(alloc: Global, call: &Call) -> Reply
     match call {
         Call::Set { .. } | Call::Del { .. } | Call::Get { .. } => Reply::Absent,
         Call::Rate { number } => {
+            // its length says of a number that it is a prefix
             let _ = number.len();
             Reply::Absent
         }
@@ -121,7 +122,7 @@ fn join_all(batch: &[Entry], answers: AnswerList, replies: &mut [Reply]) -> Resu
 }
 
 /// The replies to a batch, in the order of its entries, from what the leaves answer its parts in the order of the leaves. The
-/// rows of a List are moved where one leaf has them all.
+/// rows of a List's first leaf are moved, and those of the others are copied behind them, as many as its limit allows.
 ///
 /// `NoMemory` where memory is refused for the replies.
 pub fn join_answers(
