@@ -49,21 +49,18 @@ fn prefix_of(number: u64) -> Option<Digits> {
     Digits::from_key(key)
 }
 
-fn set(number: u64, rate: u64) -> Option<Call>
-{
+fn set(number: u64, rate: u64) -> Option<Call> {
     let prefix = prefix_of(number)?;
     let rate = Amount::new(rate % 1_000)?;
     Some(Call::Set { prefix, rate })
 }
 
-fn del(number: u64) -> Option<Call>
-{
+fn del(number: u64) -> Option<Call> {
     let prefix = prefix_of(number)?;
     Some(Call::Del { prefix })
 }
 
-fn get(number: u64) -> Option<Call>
-{
+fn get(number: u64) -> Option<Call> {
     let prefix = prefix_of(number)?;
     Some(Call::Get { prefix })
 }
@@ -93,8 +90,7 @@ impl Feed {
     }
 
     // The edit with this number among all calls.
-    fn edit(&mut self, turn: u64) -> Option<Call>
-        {
+    fn edit(&mut self, turn: u64) -> Option<Call> {
         if turn % RUN == 0 {
             self.start = self.draw() / 2;
         }
@@ -107,8 +103,7 @@ impl Feed {
     }
 
     /// The next call. All are there whose prefixes have nine digits.
-    pub fn next(&mut self) -> Option<Call>
-        {
+    pub fn next(&mut self) -> Option<Call> {
         let turn = self.made;
         self.made = turn.wrapping_add(1);
         match self.kind {

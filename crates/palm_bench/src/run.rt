@@ -37,8 +37,7 @@ fn add(sum: u64, reply: &Reply) -> u64 {
 }
 
 // Makes the next calls in place of those of the batch before.
-fn fill(feed: &mut Feed, count: u64, batch: &mut Vec<Entry>) -> Result<(), NoMemory>
-{
+fn fill(feed: &mut Feed, count: u64, batch: &mut Vec<Entry>) -> Result<(), NoMemory> {
     batch.clear();
     for place in 0..count {
         let Some(call) = feed.next() else {
