@@ -1,0 +1,265 @@
+// Histories on an engine, with workers of all numbers, and the shapes that they leave.
+ghost use Rattle.std.specs.Prelude.{◌≡◌, ◌<◌, ◌≤◌};
+ghost use Rattle.palm_share.specs.declared.share.TheConstants.{MOST_WORKERS};
+ghost use Rattle.palm_batch.specs.declared.batch.TheConstants.{MOST_CALLS};
+
+use super::*;
+use palm_base::text::{append, append_number};
+use palm_base::{Amount, Call, Digits, Entry, NoMemory, Steps};
+use palm_share::{MOST_WORKERS, OpenGate};
+use std::alloc::Global;
+use std::marker::Brand;
+use std::process::Abort;
+use std::sync::ledger::{Blank, Ledger};
+use std::test::Fail;
+use std::thread::Threads;
+
+// More calls than any history here has.
+const ALL: u32 = 1_000;
+
+// Calls on the rows of these numbers, from one to another, both included.
+#[derive(Clone, Copy, Debug)]
+enum Edits {
+    // Sets of their prefixes, each at its number as its rate.
+    Sets(u64, u64),
+    // Dels of their prefixes.
+    Dels(u64, u64),
+}
+
+// The prefix of a number has two digits at least, so that 5 stands at 05.
+fn append_prefix(number: u64, text: &mut Vec<u8>) -> Result<(), NoMemory> {
+    if number < 10 {
+        append(b"0", text)?;
+    }
+    append_number(number, text)
+}
+
+fn call(rt: &impl Abort, edits: Edits, number: u64, text: &[u8]) -> Call {
+    let prefix = Digits::read(text).expect(rt, "a prefix");
+    match edits {
+        Edits::Sets(..) => {
+            let rate = Amount::new(number).expect(rt, "a rate");
+            Call::Set { prefix, rate }
+        }
+        Edits::Dels(..) => Call::Del { prefix },
+    }
+}
+
+fn roll_of(rt: &impl Abort, alloc: Global, edits: Edits) -> Result<Vec<Entry>, NoMemory> {
+    let (Edits::Sets(from, to) | Edits::Dels(from, to)) = edits;
+    let mut roll = Vec::new(alloc);
+    let mut text = Vec::new(alloc);
+    for number in from..=to {
+        text.clear();
+        append_prefix(number, &mut text)?;
+        roll.push(Entry {
+            caller: 0,
+            place: roll.len() as u64,
+            call: call(rt, edits, number, &text),
+        })?;
+    }
+    Ok(roll)
+}
+
+// Runs a roll to its end, in batches of at most `max` calls.
+fn run_all<R: Threads + Sync + Abort, L: Ledger>(
+    rt: &R,
+    engine: &mut Engine,
+    roll: &[Entry],
+    max: u32,
+    workers: u32,
+    steps: &mut Steps<L>,
+) -> Result<(), NoMemory>
+    requires one { 1 ≤ max }
+    requires most { max ≤ MOST_CALLS }
+    requires some { 1 ≤ workers }
+    requires few { workers ≤ MOST_WORKERS }
+{
+    let mut rest = roll;
+    while !rest.is_empty() {
+        let (batch, later) = rest.split_at(rest.len().min(max as usize));
+        let replies = engine.run_list(rt, rest, max, workers, &OpenGate, steps)?;
+        assert_eq!(rt; replies.len(), batch.len());
+        rest = later;
+    }
+    Ok(())
+}
+
+fn shape_of(alloc: Global, engine: &Engine) -> Result<Vec<u8>, NoMemory> {
+    let mut text = Vec::new(alloc);
+    engine.tree.dump(&mut text)?;
+    Ok(text)
+}
+
+// The shape that a history leaves of an empty table. Each of its parts begins a batch of its own.
+fn left_with<R: Threads + Sync + Abort, L: Ledger>(
+    rt: &R,
+    alloc: Global,
+    history: &[Edits],
+    max: u32,
+    workers: u32,
+    blank: Blank,
+) -> Result<Vec<u8>, NoMemory>
+    requires name { blank.name ≡ L.name }
+    requires parts { blank.parts ≡ L.parts }
+    requires blank { 0 < blank.parts }
+    requires one { 1 ≤ max }
+    requires most { max ≤ MOST_CALLS }
+    requires some { 1 ≤ workers }
+    requires few { workers ≤ MOST_WORKERS }
+{
+    let mut steps = Steps::<L>::new(blank);
+    let mut engine = Engine::new(alloc)?;
+    for edits in history {
+        let roll = roll_of(rt, alloc, *edits)?;
+        run_all(rt, &mut engine, &roll, max, workers, &mut steps)?;
+    }
+    shape_of(alloc, &engine)
+}
+
+// The same, with a counter of its own.
+fn left_by<R: Threads + Sync + Abort>(
+    rt: &R,
+    alloc: Global,
+    history: &[Edits],
+    max: u32,
+    workers: u32,
+) -> Result<Vec<u8>, NoMemory>
+    requires one { 1 ≤ max }
+    requires most { max ≤ MOST_CALLS }
+    requires some { 1 ≤ workers }
+    requires few { workers ≤ MOST_WORKERS }
+{
+    left_with::<R, Brand>(rt, alloc, history, max, workers, Blank::new(1))
+}
+
+// The text of a shape: the lines above its leaves, and of each leaf the begin of its line and the numbers whose rows follow.
+fn shape_text(
+    alloc: Global,
+    upper: &str,
+    leaves: &[(&str, u64, u64)],
+) -> Result<Vec<u8>, NoMemory> {
+    let mut text = Vec::new(alloc);
+    append(upper.as_bytes(), &mut text)?;
+    for (begin, from, to) in leaves {
+        append(begin.as_bytes(), &mut text)?;
+        for number in *from..=*to {
+            append(b" ", &mut text)?;
+            append_prefix(number, &mut text)?;
+            append(b" ", &mut text)?;
+            append_number(number, &mut text)?;
+        }
+        append(b"\n", &mut text)?;
+    }
+    Ok(text)
+}
+
+// The full leaves of the tree of 100 to 499.
+fn full_leaves() -> [(&'static str, u64, u64); 25] {
+    let mut leaves = [("leaf 16", 100, 115); 25];
+    for i in 1..25 {
+        leaves[i].1 = 100 + 16 * i as u64;
+        leaves[i].2 = 115 + 16 * i as u64;
+    }
+    leaves
+}
+
+const THREE_LEVELS: &str = "tree 3 400
+inner 2 308
+inner 13 116 132 148 164 180 196 212 228 244 260 276 292
+inner 12 324 340 356 372 388 404 420 436 452 468 484
+";
+
+#[test]
+fn histories_leave_their_shapes(rt: HostRuntime) -> Result<(), Fail> {
+    use Edits::{Dels, Sets};
+    let alloc = rt.alloc();
+    let full = full_leaves();
+    let three = "tree 2 34\ninner 3 22 33\n";
+    let alone = "tree 2 34\ninner 3 19 28\n";
+    let merged = "tree 2 23\ninner 2 33\n";
+    let cases: [(&[Edits], u32, &str, &[(&str, u64, u64)]); 8] = [
+        (&[Sets(10, 25)], ALL, "tree 1 16\n", &[("leaf 16", 10, 25)]),
+        (
+            &[Sets(10, 26)],
+            ALL,
+            "tree 2 17\ninner 2 19\n",
+            &[("leaf 9", 10, 18), ("leaf 8", 19, 26)],
+        ),
+        (
+            &[Sets(10, 26), Dels(26, 26)],
+            ALL,
+            "tree 1 16\n",
+            &[("leaf 16", 10, 25)],
+        ),
+        (
+            &[Sets(10, 43)],
+            ALL,
+            three,
+            &[
+                ("leaf 12", 10, 21),
+                ("leaf 11", 22, 32),
+                ("leaf 11", 33, 43),
+            ],
+        ),
+        (
+            &[Sets(10, 43)],
+            1,
+            alone,
+            &[("leaf 9", 10, 18), ("leaf 9", 19, 27), ("leaf 16", 28, 43)],
+        ),
+        (
+            &[Sets(10, 43), Dels(10, 21), Sets(5, 5)],
+            ALL,
+            merged,
+            &[("leaf 12 05 5", 22, 32), ("leaf 11", 33, 43)],
+        ),
+        (&[Sets(100, 499)], ALL, THREE_LEVELS, &full),
+        (
+            &[Sets(100, 499), Dels(110, 499)],
+            ALL,
+            "tree 1 10\n",
+            &[("leaf 10", 100, 109)],
+        ),
+    ];
+    for (history, max, upper, leaves) in cases {
+        let expected = shape_text(alloc, upper, leaves)?;
+        for workers in [1, 3, MOST_WORKERS] {
+            let left = left_by(&rt, alloc, history, max, workers)?;
+            assert!(rt;
+                left.as_slice() == expected.as_slice(),
+                "{history:?}, {workers} workers"
+            );
+        }
+    }
+    Ok(())
+}
+
+// Runs the front of five calls with a counter of its own, and gives the number of its replies and the shape that it leaves.
+fn front_with<R: Threads + Sync + Abort, L: Ledger>(
+    rt: &R,
+    alloc: Global,
+    max: u32,
+    blank: Blank,
+) -> Result<(usize, Vec<u8>), NoMemory>
+    requires name { blank.name ≡ L.name }
+    requires parts { blank.parts ≡ L.parts }
+    requires blank { 0 < blank.parts }
+    requires one { 1 ≤ max }
+    requires most { max ≤ MOST_CALLS }
+{
+    let mut steps = Steps::<L>::new(blank);
+    let mut engine = Engine::new(alloc)?;
+    let five = roll_of(rt, alloc, Edits::Sets(10, 14))?;
+    let replies = engine.run_list(rt, &five, max, 1, &OpenGate, &mut steps)?;
+    Ok((replies.len(), shape_of(alloc, &engine)?))
+}
+
+#[test]
+fn a_batch_is_the_front_of_the_roll(rt: HostRuntime) -> Result<(), Fail> {
+    let alloc = rt.alloc();
+    let (replies, left) = front_with::<HostRuntime, Brand>(&rt, alloc, 2, Blank::new(1))?;
+    assert_eq!(rt; replies, 2);
+    assert!(rt; left.as_slice() == b"tree 1 2\nleaf 2 10 10 11 11\n".as_slice());
+    Ok(())
+}
