@@ -1,8 +1,10 @@
 // The stages of a batch on trees, with workers of all numbers.
-ghost use Rattle.std.specs.Prelude.{◌≡◌, ◌<◌, ◌≤◌};
+ghost use Rattle.std.specs.Prelude.{◌≡◌, ◌<◌, ◌≤◌, length};
 ghost use Rattle.palm_base.specs.Table.{IsTable};
 ghost use Rattle.palm_share.specs.declared.share.TheConstants.{MOST_WORKERS};
+ghost use Rattle.palm_batch.specs.declared.batch.TheConstants.{MOST_CALLS};
 
+use crate::batch::run_batch;
 use crate::calls::{amount, del, digits, entries, get, list, set};
 use crate::pass::{Passed, change_levels, route, run_pass};
 use palm_base::{Call, Entry, NoMemory, Row, RowList, Steps};
@@ -319,6 +321,88 @@ fn two_workers_make_two_nodes_anew_beside_each_other(rt: HostRuntime) -> Result<
     let counts = piece_counts(alloc, &outcome.changes)?;
     assert!(rt; counts.as_slice() == [1, 1].as_slice());
     assert_eq!(rt; gate.gave_up.load(Ordering::SeqCst), 0);
+    Ok(())
+}
+
+// Two workers that count their passes. At its k-th each looks whether the other's count has come to k, for as long as it
+// takes, or until one gives up.
+#[derive(Drop)]
+struct Counts {
+    first: AtomicU64,
+    second: AtomicU64,
+    gave_up: AtomicU64,
+}
+
+impl Counts {
+    fn meet(&self, mine: &AtomicU64, theirs: &AtomicU64) {
+        let passes = mine.fetch_add(1, Ordering::SeqCst).wrapping_add(1);
+        for _ in 0..100_000_000u32 {
+            if theirs.load(Ordering::SeqCst) >= passes {
+                return;
+            }
+        }
+        self.gave_up.fetch_add(1, Ordering::SeqCst);
+    }
+}
+
+impl Gate for Counts {
+    fn pass(&self, who: Who, _turn: u64) {
+        match who {
+            Who::Worker(0) => self.meet(&self.first, &self.second),
+            Who::Worker(1) => self.meet(&self.second, &self.first),
+            _ => {}
+        }
+    }
+}
+
+// What a batch on a tree is answered, as text.
+fn replied<R: Threads + Sync, G: Gate + Sync, L: Ledger>(
+    rt: &R,
+    alloc: Global,
+    tree: &mut Tree,
+    batch: &[Entry],
+    workers: u32,
+    gate: &G,
+    blank: Blank,
+) -> Result<String, Fail>
+    requires name { blank.name ≡ L.name }
+    requires parts { blank.parts ≡ L.parts }
+    requires blank { 0 < blank.parts }
+    requires most { length batch.now ≤ MOST_CALLS }
+    requires some { 1 ≤ workers }
+    requires few { workers ≤ MOST_WORKERS }
+{
+    let mut steps = Steps::<L>::new(blank);
+    let replies = run_batch(rt, tree, batch, workers, gate, &mut steps)?;
+    Ok(format!(in alloc; "{replies:?}")?)
+}
+
+// The two Sets are routed in two shares, change two leaves and make two nodes anew, so that each worker passes three times.
+#[test]
+fn two_workers_come_through_a_whole_batch_beside_each_other(rt: HostRuntime) -> Result<(), Fail> {
+    let alloc = rt.alloc();
+    let gate = Counts {
+        first: AtomicU64::new(0),
+        second: AtomicU64::new(0),
+        gave_up: AtomicU64::new(0),
+    };
+    let mut tree = built(&rt, alloc, 100, 499)?;
+    let batch = entries(alloc, &[set(&rt, "1000", 1), set(&rt, "4990", 2)])?;
+    assert_eq!(rt; batch.len(), 2);
+    let told = replied::<HostRuntime, Counts, Brand>(
+        &rt,
+        alloc,
+        &mut tree,
+        &batch,
+        2,
+        &gate,
+        Blank::new(1),
+    )?;
+    assert_eq!(rt; told.as_str(), "[New, New]");
+    assert_eq!(rt; tree.row_count(), 402);
+    assert_eq!(rt; gate.gave_up.load(Ordering::SeqCst), 0);
+    assert_eq!(rt; gate.first.load(Ordering::SeqCst), 3);
+    assert_eq!(rt; gate.second.load(Ordering::SeqCst), 3);
     Ok(())
 }
 
