@@ -76,20 +76,40 @@ fn scripts_give_their_transcripts(rt: HostRuntime) -> Result<(), Fail> {
             "",
         ),
         (
-            "0 set 44 5\n0 rate 44\n",
+            "0 set 44 5\n0 rate 4a\n",
             3,
             "0 0 new\n= 1\n",
-            "palm: line 2 fault 2\n",
+            "palm: line 2 fault 5\n",
         ),
         (
             "0 set 4 1\n# note\n1 get 4\n\n0 set 4a 7\n0 get 4\n",
             3,
             "0 0 new\n1 1 value 1\n= 2\n",
-            "palm: line 5 fault 2\n",
+            "palm: line 5 fault 4\n",
         ),
-        ("64 get 4\n", 3, "", "palm: line 1 fault 2\n"),
+        ("64 get 4\n", 3, "", "palm: line 1 fault 1\n"),
     ] {
         replays(&rt, rt.alloc(), script, status, out, err)?;
+    }
+    Ok(())
+}
+
+#[test]
+fn rates_and_lists_are_served(rt: HostRuntime) -> Result<(), Fail> {
+    let sets = "0 set 4 1\n0 set 44 5\n0 set 441 8\n0 set 45 9\n";
+    let new = "0 0 new\n1 0 new\n2 0 new\n3 0 new\n";
+    let alloc = rt.alloc();
+    for (asks, answers) in [
+        ("0 rate 4420", "44 5"),
+        ("0 rate 441", "441 8"),
+        ("0 rate 9", "absent"),
+        ("0 list 4 45 2", "rows 2 4 1 44 5"),
+        ("0 list 44 99 1000", "rows 3 44 5 441 8 45 9"),
+        ("0 list 45 4 1000", "rows 0"),
+    ] {
+        let script = format!(in alloc; "{sets}{asks}\n")?;
+        let transcript = format!(in alloc; "{new}4 0 {answers}\n= 5\nend 5 4\n")?;
+        replays(&rt, alloc, &script, 0, &transcript, "")?;
     }
     Ok(())
 }
@@ -181,7 +201,7 @@ fn a_full_sink_is_a_write_fault(rt: HostRuntime) -> Result<(), Fail> {
 fn faults_of_the_error_stream_change_nothing(rt: HostRuntime) -> Result<(), Fail> {
     let alloc = rt.alloc();
     let all = words(alloc, &["replay"])?;
-    let script = b"0 set 4 1\n0 rate 4\n";
+    let script = b"0 set 4 1\n0 rate x\n";
     let mut src = SureSource::new(Vec::from_slice(alloc, script)?);
     let mut out = sink(alloc, 100, None)?;
     let mut err = sink(alloc, 100, Some(0))?;

@@ -2,12 +2,12 @@
 use Rattle.std.proofs.Common.{◌≡◌, true, false, [], ◌∷◌, refl}
 use Rattle.std.specs.Prelude.{codes, None, Some, Ok, Err}
 use Rattle.std.specs.Fmt.{digits}
-use Rattle.palm_base.specs.declared.call.Call.TheVariants.{Set, Get}
+use Rattle.palm_base.specs.declared.call.Call.TheVariants.{Set, Get, List as Listing}
 use Rattle.palm_script.specs.Line.{fields, number_of, line_of, fault_text}
 use Rattle.palm_script.specs.Script.{lines_of, script_of, entries_from}
 use Rattle.palm_script.specs.Transcript.{cut_by, straight, final_of}
 use Rattle.palm_script.specs.declared.line.Line.TheVariants.{Skip, Made}
-use Rattle.palm_script.specs.declared.line.LineWhy.TheVariants.{Word}
+use Rattle.palm_script.specs.declared.line.LineWhy.TheVariants.{Caller, Count, Prefix}
 
 -- ---- one line
 
@@ -28,14 +28,24 @@ number-signed = refl
 line-set : line_of (codes "63 set 44 5") 1 ≡ Ok (Made 63 (Set (4 ∷ 4 ∷ []) 5))
 line-set = refl
 
+line-list : line_of (codes "0 list 4 045 0010") 1 ≡ Ok (Made 0 (Listing (4 ∷ []) (0 ∷ 4 ∷ 5 ∷ []) 10))
+line-list = refl
+
 line-skipped : line_of (codes " # 0 get 44") 1 ≡ Ok Skip
 line-skipped = refl
 
 -- There are 64 callers.
-line-caller : line_of (codes "64 get 44") 7 ≡ Err (record { line = 7; why = Word })
+line-caller : line_of (codes "64 get 44") 7 ≡ Err (record { line = 7; why = Caller })
 line-caller = refl
 
-fault-line_2 : fault_text (record { line = 2; why = Word }) ≡ codes "line 2 fault 2"
+-- A field too few comes before a bad prefix, and that before the rate on its right.
+line-count : line_of (codes "0 set 4a") 7 ≡ Err (record { line = 7; why = Count })
+line-count = refl
+
+line-leftmost : line_of (codes "0 set 4a -1") 7 ≡ Err (record { line = 7; why = Prefix })
+line-leftmost = refl
+
+fault-line_2 : fault_text (record { line = 2; why = Prefix }) ≡ codes "line 2 fault 4"
 unfolding digits
 fault-line_2 = refl
 
@@ -49,7 +59,7 @@ lines-cut_short : lines_of (codes "a\r\n\nb") false ≡ codes "a" ∷ [] ∷ []
 lines-cut_short = refl
 
 -- The first faulty line ends what a script says, and skipped lines count.
-script-fault : script_of (codes "0 get 4\n\nget 4\n0 get 5\n") true ≡ record { items = Made 0 (Get (4 ∷ [])) ∷ []; fault = Some (record { line = 3; why = Word }) }
+script-fault : script_of (codes "0 get 4\n\nget 4\n0 get 5\n") true ≡ record { items = Made 0 (Get (4 ∷ [])) ∷ []; fault = Some (record { line = 3; why = Caller }) }
 script-fault = refl
 
 -- Places count a caller's own calls.

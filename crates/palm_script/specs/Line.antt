@@ -1,22 +1,21 @@
 -- One line of a script: its fields, and what they say.
-use Rattle.std.specs.Prelude.{◌≤◌, ℕ, ◌==◌, nat_lt, nat_le, Bool, not, ◌&&◌, ◌||◌, if◌then◌else◌, List, [], ◌∷◌, ◌++◌, length, filter, slice_index, codes, Option, Some, None, Result, Ok, Err}
+use Rattle.std.specs.Prelude.{◌≤◌, ℕ, ◌==◌, nat_lt, nat_le, Bool, not, ◌&&◌, ◌||◌, if◌then◌else◌, List, [], ◌∷◌, ◌++◌, length, filter, slice_index, codes, Option, Some, None, Result, Ok, Err, is_ok}
 use Rattle.std.specs.List.{slice_split, list_all}
 use Rattle.std.specs.Fmt.{decimal}
 use Rattle.std.specs.Int.Digits.{number_from_digits}
-use Rattle.std.specs.Option.{option_map}
-use Rattle.std.specs.Result.{result_ok}
+use Rattle.std.specs.Result.{result_map_both}
 use Rattle.std.specs.Str.{bytes_eq}
 use Rattle.palm_base.specs.Prefix.{read_of, digits_in, is_no_digit}
-use Rattle.palm_base.specs.Table.{IsPlain}
-use Rattle.palm_base.specs.declared.amount.TheConstants.{MOST_RATE}
+use Rattle.palm_base.specs.declared.amount.TheConstants.{MOST_RATE, MOST_LIMIT}
 use Rattle.palm_base.specs.declared.call.Call.{Call}
-use Rattle.palm_base.specs.declared.call.Call.TheVariants.{Set, Del, Get}
+use Rattle.palm_base.specs.declared.call.Call.TheVariants.{Set, Del, Get, Rate, List as Listing}
 use Rattle.palm_script.specs.declared.line.TheConstants.{MOST_CALLER, MOST_LINE}
 use Rattle.palm_script.specs.declared.line.Line.{Line}
 use Rattle.palm_script.specs.declared.line.Line.TheVariants.{Skip, Made}
 use Rattle.palm_script.specs.declared.line.LineFault.{LineFault}
 use Rattle.palm_script.specs.declared.line.LineWhy.{LineWhy}
-use Rattle.palm_script.specs.declared.line.LineWhy.TheVariants.{Word}
+use Rattle.palm_script.specs.declared.line.LineWhy.TheVariants.{Caller, Word, Count, Prefix, Number, Long}
+use Rattle.palm_script.specs.declared.line.LineWhy.TheVariants as whys
 
 -- A blank or a tab.
 abbrev pub is_blank : ℕ → Bool
@@ -26,63 +25,115 @@ is_blank b = b == 32 || b == 9
 abbrev pub fields : List ℕ → List (List ℕ)
 fields text = filter (λ part. nat_lt 0 (length part)) (slice_split is_blank text)
 
--- A number field: 1 to 20 digits, with their decimal value. So "007" is 7, and "+7" is no number.
+-- The value of a field of digits. So that of "007" is 7.
+abbrev pub value_of : List ℕ → ℕ
+value_of field = number_from_digits 10 (digits_in field)
+
+-- A number field: 1 to 20 digits. So "007" is one, and "+7" isn't.
+abbrev pub is_number : List ℕ → Bool
+is_number field = nat_lt 0 (length field) && nat_le (length field) 20 && list_all (λ b. not (is_no_digit b)) field
+
+-- The value of a number field. So "007" is 7, and "+7" is no number.
 abbrev pub number_of : List ℕ → Option ℕ
-number_of field =
-    if nat_lt 0 (length field) && nat_le (length field) 20 && list_all (λ b. not (is_no_digit b)) field then Some (number_from_digits 10 (digits_in field)) else None
+number_of field = if is_number field then Some (value_of field) else None
 
--- The number, where it is at most this one.
-abbrev pub up_to : ℕ → Option ℕ → Option ℕ
-up_to most None = None
-up_to most (Some n) = if nat_le n most then Some n else None
+-- A number field whose value is from one number to another, both included. So "05" is one from 1 to 9, and "0" isn't.
+abbrev pub is_from_to : ℕ → ℕ → List ℕ → Bool
+is_from_to least most field = is_number field && nat_le least (value_of field) && nat_le (value_of field) most
 
-abbrev pub prefix_of : List ℕ → Option (List ℕ)
-prefix_of field = result_ok (read_of field)
+abbrev pub is_caller : List ℕ → Bool
+is_caller field = is_from_to 0 MOST_CALLER field
 
-abbrev pub set_of : Option (List ℕ) → Option ℕ → Option Call
-set_of None rate = None
-set_of (Some prefix) None = None
-set_of (Some prefix) (Some rate) = Some (Set prefix rate)
+abbrev pub is_rate : List ℕ → Bool
+is_rate field = is_from_to 0 MOST_RATE field
 
--- The call that the fields after the caller make: "set" PREFIX RATE, "del" PREFIX or "get" PREFIX.
-abbrev pub call_of : List (List ℕ) → Option Call
-call_of (word ∷ prefix ∷ []) =
-    if bytes_eq word (codes "del") then option_map Del (prefix_of prefix) else
-    if bytes_eq word (codes "get") then option_map Get (prefix_of prefix) else None
-call_of (word ∷ prefix ∷ rate ∷ []) = if bytes_eq word (codes "set") then set_of (prefix_of prefix) (up_to MOST_RATE (number_of rate)) else None
-call_of _ = None
+abbrev pub is_limit : List ℕ → Bool
+is_limit field = is_from_to 1 MOST_LIMIT field
 
-abbrev pub made_by : Option ℕ → Option Call → Option Line
-made_by None call = None
-made_by (Some caller) None = None
-made_by (Some caller) (Some call) = Some (Made caller call)
+-- 1 to 15 digits: a prefix, or a dialled number. So "044" is one, and "4a" isn't.
+abbrev pub is_dialled : List ℕ → Bool
+is_dialled field = is_ok (read_of field)
+
+-- The call of good arguments, or the fault of the leftmost bad one. Each argument is given by whether it is good, and by
+-- its fault if it isn't. So where a prefix and then a rate are both bad, the fault is Prefix.
+abbrev pub call_or_fault : List (Bool × LineWhy) → Call → Result Call LineWhy
+call_or_fault [] call = Ok call
+call_or_fault (argument ∷ arguments) call = if argument.0 then call_or_fault arguments call else Err argument.1
+
+-- The forms of the five words. Each takes as many arguments as it names; of another number the fault is Count.
+
+-- "set" PREFIX RATE. So "44", "5" is the Set of 4, 4 to the rate 5.
+abbrev pub set_of : List (List ℕ) → Result Call LineWhy
+set_of (prefix ∷ rate ∷ []) =
+    call_or_fault ((is_dialled prefix, Prefix) ∷ (is_rate rate, whys.Rate) ∷ []) (Set (digits_in prefix) (value_of rate))
+set_of arguments = Err Count
+
+-- "del" PREFIX. So "4a" has the fault Prefix.
+abbrev pub del_of : List (List ℕ) → Result Call LineWhy
+del_of (prefix ∷ []) = call_or_fault ((is_dialled prefix, Prefix) ∷ []) (Del (digits_in prefix))
+del_of arguments = Err Count
+
+-- "get" PREFIX. So "4", "5" has the fault Count.
+abbrev pub get_of : List (List ℕ) → Result Call LineWhy
+get_of (prefix ∷ []) = call_or_fault ((is_dialled prefix, Prefix) ∷ []) (Get (digits_in prefix))
+get_of arguments = Err Count
+
+-- "rate" NUMBER. So "4420" is the Rate of 4, 4, 2, 0.
+abbrev pub rate_of : List (List ℕ) → Result Call LineWhy
+rate_of (number ∷ []) = call_or_fault ((is_dialled number, Number) ∷ []) (Rate (digits_in number))
+rate_of arguments = Err Count
+
+-- "list" FROM TO LIMIT. So "4", "45", "0" has the fault Limit.
+abbrev pub list_of : List (List ℕ) → Result Call LineWhy
+list_of (from ∷ to ∷ limit ∷ []) =
+    call_or_fault ((is_dialled from, Prefix) ∷ (is_dialled to, Prefix) ∷ (is_limit limit, whys.Limit) ∷ []) (Listing (digits_in from) (digits_in to) (value_of limit))
+list_of arguments = Err Count
+
+-- What the fields after the caller say: a word, and the arguments of its form. So "get", "44" is the Get of 4, 4, and
+-- "swap", "44" has the fault Word.
+abbrev pub call_of : List (List ℕ) → Result Call LineWhy
+call_of [] = Err Word
+call_of (word ∷ arguments) =
+    if bytes_eq word (codes "set") then set_of arguments else
+    if bytes_eq word (codes "del") then del_of arguments else
+    if bytes_eq word (codes "get") then get_of arguments else
+    if bytes_eq word (codes "rate") then rate_of arguments else
+    if bytes_eq word (codes "list") then list_of arguments else Err Word
+
+-- What a first field and those after it say. So "0" and then "get", "44" is the caller 0's Get of 4, 4, and "64" has the
+-- fault Caller, whatever follows.
+abbrev pub made_by : List ℕ → List (List ℕ) → Result Line LineWhy
+made_by caller others = if is_caller caller then result_map_both (Made (value_of caller)) (λ why. why) (call_of others) else Err Caller
 
 -- What the fields of a line say: nothing where there are none or the first begins with '#', else a caller's call.
-abbrev pub said_by : List (List ℕ) → Option Line
-said_by [] = Some Skip
-said_by (first ∷ others) = if slice_index first 0 == 35 then Some Skip else made_by (up_to MOST_CALLER (number_of first)) (call_of others)
+abbrev pub said_by : List (List ℕ) → Result Line LineWhy
+said_by [] = Ok Skip
+said_by (first ∷ others) = if slice_index first 0 == 35 then Ok Skip else made_by first others
 
--- What a line of this text says, where it isn't too long and its fields say something.
-abbrev pub meaning_of : List ℕ → Option Line
-meaning_of text = if nat_lt MOST_LINE (length text) then None else said_by (fields text)
-
-abbrev pub or_fault : ℕ → Option Line → Result Line LineFault
-or_fault n None = Err (record { line = n; why = Word })
-or_fault n (Some line) = Ok line
+-- What a line of this text says, or its fault. So 1,025 bytes have the fault Long, also where the first is '#'.
+abbrev pub meaning_of : List ℕ → Result Line LineWhy
+meaning_of text = if nat_lt MOST_LINE (length text) then Err Long else said_by (fields text)
 
 -- The line of this text, which is the n-th, or its fault. So "0 get 44" is the caller 0's Get of 4, 4.
 abbrev pub line_of : List ℕ → ℕ → Result Line LineFault
-line_of text n = or_fault n (meaning_of text)
+line_of text n = result_map_both (λ line. line) (λ why. record { line = n; why = why }) (meaning_of text)
 
--- A call in a script is a Set, a Del or a Get, by a caller from 0 to 63.
+-- A call in a script is made by a caller from 0 to 63.
 abbrev pub LineFits : Line → Type 0
 LineFits Skip = Unit {0}
-LineFits (Made caller call) = (caller ≤ MOST_CALLER) × IsPlain call
+LineFits (Made caller call) = caller ≤ MOST_CALLER
 
 -- The code of what is wrong with a line.
 abbrev pub why_code : LineWhy → ℕ
+why_code Caller = 1
 why_code Word = 2
+why_code Count = 3
+why_code Prefix = 4
+why_code Number = 5
+why_code whys.Rate = 6
+why_code whys.Limit = 7
+why_code Long = 8
 
--- The text of a faulty line, as "line 2 fault 2".
+-- The text of a faulty line, as "line 2 fault 4".
 abbrev pub fault_text : LineFault → List ℕ
 fault_text fault = codes "line " ++ (decimal fault.line ++ (codes " fault " ++ decimal (why_code fault.why)))

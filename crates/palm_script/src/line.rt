@@ -1,10 +1,9 @@
-ghost use Rattle.std.specs.Prelude.{◌≡◌, ◌≤◌, ◌<◌, ◌∷◌, [], length, not, position, MatchOption, IfSome, IfOk};
+ghost use Rattle.std.specs.Prelude.{◌≡◌, ◌≢◌, ◌≤◌, ◌<◌, ◌∷◌, [], if◌then◌else◌, Ok, Err, length, not, position, MatchOption, IfSome, IfOk, IfErr};
 ghost use Rattle.std.specs.List.{position_or_len, list_all};
-ghost use Rattle.palm_base.specs.Prefix.{is_no_digit};
-ghost use Rattle.palm_base.specs.Table.{IsPlain};
-ghost use Rattle.palm_script.specs.Line.{is_blank, fields, number_of, up_to, call_of, meaning_of, line_of, LineFits};
+ghost use Rattle.palm_base.specs.Prefix.{is_no_digit, digits_in};
+ghost use Rattle.palm_script.specs.Line.{is_blank, fields, value_of, number_of, is_from_to, is_caller, is_rate, is_limit, is_dialled, set_of, del_of, get_of, rate_of, list_of, call_of, made_by, meaning_of, line_of, LineFits};
 
-use palm_base::{Amount, Call, Digits, MOST_RATE};
+use palm_base::{Amount, Call, Digits, Limit, MOST_LIMIT, MOST_RATE};
 use std::error::Error;
 use std::fmt;
 
@@ -24,10 +23,27 @@ pub enum Line {
 }
 
 /// What is wrong with a line. The number of a variant is the code that the program reports.
+///
+/// A line is judged by `Long` first, then by the others in the order of their numbers up to `Count`, and then by its
+/// arguments from the left.
 #[derive(Clone, Copy, Debug, PartialEq, Eq)]
 pub enum LineWhy {
-    /// The line is too long, or it is neither skipped nor a good line of one of the words `set`, `del` and `get`.
+    /// The line isn't skipped, and its first field is no number from 0 to `MOST_CALLER`.
+    Caller = 1,
+    /// A caller is not followed by one of the words `set`, `del`, `get`, `rate` and `list`.
     Word = 2,
+    /// The line has not as many fields as the form of its word.
+    Count = 3,
+    /// A prefix is not 1 to 15 digits.
+    Prefix = 4,
+    /// A dialled number is not 1 to 15 digits.
+    Number = 5,
+    /// A rate is no number from 0 to `MOST_RATE`.
+    Rate = 6,
+    /// A limit is no number from 1 to `MOST_LIMIT`.
+    Limit = 7,
+    /// The line without its ending has more than `MOST_LINE` bytes.
+    Long = 8,
 }
 
 /// A faulty line.
@@ -115,100 +131,172 @@ fn number(field: &[u8]) -> Option<u128>
     Some(value)
 }
 
-// The value of a number field, where it is at most this one.
-fn number_up_to(field: &[u8], most: u64) -> Option<u64>
-    ensures value { result ≡ up_to most (number_of field.now) }
-    ensures small { IfSome result (λ n. n ≤ most) }
+// The value of a number field, where it is from `least` to `most`, and else the fault `why`.
+fn number_from_to(field: &[u8], least: u64, most: u64, why: LineWhy) -> Result<u64, LineWhy>
+    ensures value { result ≡ (if is_from_to least most field.now then Ok (value_of field.now) else Err why) }
+    ensures least { IfOk result (λ n. least ≤ n) }
+    ensures most { IfOk result (λ n. n ≤ most) }
 {
-    let value = number(field)?;
-    if value > u128::from(most) {
-        return None;
+    let value = number(field).ok_or(why)?;
+    if value < u128::from(least) || value > u128::from(most) {
+        return Err(why);
     }
-    Some(value as u64)
+    Ok(value as u64)
 }
 
-fn call_of_two(word: &[u8], prefix: &[u8]) -> Option<Call>
-    ensures says { result ≡ call_of (word.now ∷ prefix.now ∷ []) }
-    ensures plain { IfSome result IsPlain }
+fn read_caller(field: &[u8]) -> Result<u32, LineWhy>
+    ensures value { result ≡ (if is_caller field.now then Ok (value_of field.now) else Err LineWhy.Caller) }
+    ensures most { IfOk result (λ n. n ≤ MOST_CALLER) }
 {
-    match word {
-        b"del" => {
-            let prefix = Digits::read(prefix).ok()?;
-            Some(Call::Del { prefix })
-        }
-        b"get" => {
-            let prefix = Digits::read(prefix).ok()?;
-            Some(Call::Get { prefix })
-        }
-        _ => None,
+    let caller = number_from_to(field, 0, u64::from(MOST_CALLER), LineWhy::Caller)?;
+    Ok(caller as u32)
+}
+
+// The prefix or number that a field dials, and else the fault `why`.
+fn read_digits(field: &[u8], why: LineWhy) -> Result<Digits, LineWhy>
+    ensures { result ≡ (if is_dialled field.now then Ok (digits_in field.now) else Err why) }
+{
+    Digits::read(field).ok().ok_or(why)
+}
+
+fn read_rate(field: &[u8]) -> Result<Amount, LineWhy>
+    ensures { result ≡ (if is_rate field.now then Ok (value_of field.now) else Err LineWhy.Rate) }
+{
+    let rate = number_from_to(field, 0, MOST_RATE, LineWhy::Rate)?;
+    Amount::new(rate).ok_or(LineWhy::Rate)
+}
+
+fn read_limit(field: &[u8]) -> Result<Limit, LineWhy>
+    ensures { result ≡ (if is_limit field.now then Ok (value_of field.now) else Err LineWhy.Limit) }
+{
+    let limit = number_from_to(field, 1, u64::from(MOST_LIMIT), LineWhy::Limit)?;
+    Limit::new(limit as u32).ok_or(LineWhy::Limit)
+}
+
+// The field of a text that has one alone.
+fn one_field(text: &[u8]) -> Result<&[u8], LineWhy>
+    ensures ok { IfOk result (λ field. fields text.now ≡ field.now ∷ []) }
+    ensures err { IfErr result (λ why. (why ≡ LineWhy.Count) × (length (fields text.now) ≢ 1)) }
+{
+    let (field, rest) = next_field(text).ok_or(LineWhy::Count)?;
+    match next_field(rest) {
+        None => Ok(field),
+        Some(_) => Err(LineWhy::Count),
     }
 }
 
-fn call_of_three(word: &[u8], prefix: &[u8], rate: &[u8]) -> Option<Call>
-    ensures says { result ≡ call_of (word.now ∷ prefix.now ∷ rate.now ∷ []) }
-    ensures plain { IfSome result IsPlain }
+// The fields of a text that has two.
+fn two_fields(text: &[u8]) -> Result<(&[u8], &[u8]), LineWhy>
+    ensures ok { IfOk result (λ x. fields text.now ≡ x.0.now ∷ x.1.now ∷ []) }
+    ensures err { IfErr result (λ why. (why ≡ LineWhy.Count) × (length (fields text.now) ≢ 2)) }
 {
-    match word {
-        b"set" => {
-            let prefix = Digits::read(prefix).ok()?;
-            let rate = Amount::new(number_up_to(rate, MOST_RATE)?)?;
-            Some(Call::Set { prefix, rate })
-        }
-        _ => None,
-    }
+    let (first, rest) = next_field(text).ok_or(LineWhy::Count)?;
+    let second = one_field(rest)?;
+    Ok((first, second))
+}
+
+// The fields of a text that has three.
+fn three_fields(text: &[u8]) -> Result<(&[u8], &[u8], &[u8]), LineWhy>
+    ensures ok { IfOk result (λ x. fields text.now ≡ x.0.now ∷ x.1.now ∷ x.2.now ∷ []) }
+    ensures err { IfErr result (λ why. (why ≡ LineWhy.Count) × (length (fields text.now) ≢ 3)) }
+{
+    let (first, rest) = next_field(text).ok_or(LineWhy::Count)?;
+    let (second, third) = two_fields(rest)?;
+    Ok((first, second, third))
+}
+
+fn read_set(arguments: &[u8]) -> Result<Call, LineWhy>
+    ensures { result ≡ set_of (fields arguments.now) }
+{
+    let (prefix, rate) = two_fields(arguments)?;
+    let prefix = read_digits(prefix, LineWhy::Prefix)?;
+    let rate = read_rate(rate)?;
+    Ok(Call::Set { prefix, rate })
+}
+
+fn read_del(arguments: &[u8]) -> Result<Call, LineWhy>
+    ensures { result ≡ del_of (fields arguments.now) }
+{
+    let prefix = read_digits(one_field(arguments)?, LineWhy::Prefix)?;
+    Ok(Call::Del { prefix })
+}
+
+fn read_get(arguments: &[u8]) -> Result<Call, LineWhy>
+    ensures { result ≡ get_of (fields arguments.now) }
+{
+    let prefix = read_digits(one_field(arguments)?, LineWhy::Prefix)?;
+    Ok(Call::Get { prefix })
+}
+
+fn read_rate_call(arguments: &[u8]) -> Result<Call, LineWhy>
+    ensures { result ≡ rate_of (fields arguments.now) }
+{
+    let number = read_digits(one_field(arguments)?, LineWhy::Number)?;
+    Ok(Call::Rate { number })
+}
+
+fn read_list(arguments: &[u8]) -> Result<Call, LineWhy>
+    ensures { result ≡ list_of (fields arguments.now) }
+{
+    let (from, to, limit) = three_fields(arguments)?;
+    let from = read_digits(from, LineWhy::Prefix)?;
+    let to = read_digits(to, LineWhy::Prefix)?;
+    let limit = read_limit(limit)?;
+    Ok(Call::List { from, to, limit })
 }
 
 // The call that the fields after the caller make.
-fn read_call(text: &[u8]) -> Option<Call>
-    ensures says { result ≡ call_of (fields text.now) }
-    ensures plain { IfSome result IsPlain }
+fn read_call(text: &[u8]) -> Result<Call, LineWhy>
+    ensures { result ≡ call_of (fields text.now) }
 {
-    let (word, rest) = next_field(text)?;
-    let (prefix, rest) = next_field(rest)?;
-    match next_field(rest) {
-        None => call_of_two(word, prefix),
-        Some((rate, rest)) => match next_field(rest) {
-            None => call_of_three(word, prefix, rate),
-            Some(_) => None,
-        },
+    let (word, arguments) = next_field(text).ok_or(LineWhy::Word)?;
+    match word {
+        b"set" => read_set(arguments),
+        b"del" => read_del(arguments),
+        b"get" => read_get(arguments),
+        b"rate" => read_rate_call(arguments),
+        b"list" => read_list(arguments),
+        _ => Err(LineWhy::Word),
     }
 }
 
-fn meaning(text: &[u8]) -> Option<Line>
+// The call of the caller that the first field names, by the text after it.
+fn read_made(first: &[u8], rest: &[u8]) -> Result<Line, LineWhy>
+    ensures says { result ≡ made_by first.now (fields rest.now) }
+    ensures fits { IfOk result LineFits }
+{
+    let caller = read_caller(first)?;
+    let call = read_call(rest)?;
+    Ok(Line::Made { caller, call })
+}
+
+fn meaning(text: &[u8]) -> Result<Line, LineWhy>
     ensures says { result ≡ meaning_of text.now }
-    ensures fits { IfSome result LineFits }
+    ensures fits { IfOk result LineFits }
 {
     if text.len() > MOST_LINE {
-        return None;
+        return Err(LineWhy::Long);
     }
     let Some((first, rest)) = next_field(text) else {
-        return Some(Line::Skip);
+        return Ok(Line::Skip);
     };
     if first[0] == b'#' {
-        return Some(Line::Skip);
+        return Ok(Line::Skip);
     }
-    let caller = number_up_to(first, u64::from(MOST_CALLER))?;
-    let call = read_call(rest)?;
-    Some(Line::Made {
-        caller: caller as u32,
-        call,
-    })
+    read_made(first, rest)
 }
 
 /// What a line says, by its text without its ending and its number in the script, which a fault carries.
 ///
-/// `Word` exactly where the line has more than `MOST_LINE` bytes, or it is neither skipped nor a good line of one of
-/// the words `set`, `del` and `get`. It takes no memory.
+/// A line that breaks several rules has the first of these faults: `Long`, `Caller`, `Word`, `Count`, and then that of
+/// its leftmost bad argument. It takes no memory.
 pub fn read_line(text: &[u8], line: u64) -> Result<Line, LineFault>
     ensures says { result ≡ line_of text.now line }
     ensures fits { IfOk result LineFits }
 {
     match meaning(text) {
-        Some(found) => Ok(found),
-        None => Err(LineFault {
-            line,
-            why: LineWhy::Word,
-        }),
+        Ok(found) => Ok(found),
+        Err(why) => Err(LineFault { line, why }),
     }
 }
 
@@ -217,18 +305,23 @@ mod tests {
     use super::*;
     use std::process::Abort;
 
-    // The call's word, the key of its prefix, and its rate where it has one.
-    fn parts(call: &Call) -> (&str, u64, Option<u64>) {
+    // A call's word, and what follows it: the keys of prefixes and numbers, and the rate or the limit where there is one.
+    fn parts(call: &Call) -> (&str, u64, Option<u64>, Option<u64>) {
         match call {
-            Call::Set { prefix, rate } => ("set", prefix.key(), Some(rate.get())),
-            Call::Del { prefix } => ("del", prefix.key(), None),
-            Call::Get { prefix } => ("get", prefix.key(), None),
-            Call::Rate { number } => ("rate", number.key(), None),
-            Call::List { from, .. } => ("list", from.key(), None),
+            Call::Set { prefix, rate } => ("set", prefix.key(), None, Some(rate.get())),
+            Call::Del { prefix } => ("del", prefix.key(), None, None),
+            Call::Get { prefix } => ("get", prefix.key(), None, None),
+            Call::Rate { number } => ("rate", number.key(), None, None),
+            Call::List { from, to, limit } => (
+                "list",
+                from.key(),
+                Some(to.key()),
+                Some(u64::from(limit.get())),
+            ),
         }
     }
 
-    fn says(rt: &impl Abort, text: &str, who: u32, want: (&str, u64, Option<u64>)) {
+    fn says(rt: &impl Abort, text: &str, who: u32, want: (&str, u64, Option<u64>, Option<u64>)) {
         match read_line(text.as_bytes(), 7) {
             Ok(Line::Made { caller, call }) => {
                 assert_eq!(rt; caller, who, "{text}");
@@ -239,7 +332,7 @@ mod tests {
     }
 
     #[test]
-    fn good_lines(rt: HostRuntime) {
+    fn edits_and_gets(rt: HostRuntime) {
         for (text, who, word, key, rate) in [
             ("0 set 44 5", 0, "set", 0x4400_0000_0000_0002, Some(5)),
             (
@@ -250,6 +343,7 @@ mod tests {
                 Some(5),
             ),
             ("63 get 0", 63, "get", 0x0000_0000_0000_0001, None),
+            ("00 get 4", 0, "get", 0x4000_0000_0000_0001, None),
             (
                 "00 del 123456789012345",
                 0,
@@ -273,7 +367,40 @@ mod tests {
             ),
             ("1 set 10 000", 1, "set", 0x1000_0000_0000_0002, Some(0)),
         ] {
-            says(&rt, text, who, (word, key, rate));
+            says(&rt, text, who, (word, key, None, rate));
+        }
+    }
+
+    #[test]
+    fn rates_and_lists(rt: HostRuntime) {
+        for (text, who, word, key, to, limit) in [
+            ("0 rate 4420", 0, "rate", 0x4420_0000_0000_0004, None, None),
+            (
+                "\t 9 \trate 123456789012345 ",
+                9,
+                "rate",
+                0x1234_5678_9012_345F,
+                None,
+                None,
+            ),
+            (
+                "0 list 1 2 1",
+                0,
+                "list",
+                0x1000_0000_0000_0001,
+                Some(0x2000_0000_0000_0001),
+                Some(1),
+            ),
+            (
+                "\t63 list\t99 0 0001000",
+                63,
+                "list",
+                0x9900_0000_0000_0002,
+                Some(0x0000_0000_0000_0001),
+                Some(1_000),
+            ),
+        ] {
+            says(&rt, text, who, (word, key, to, limit));
         }
     }
 
@@ -285,27 +412,60 @@ mod tests {
         assert_eq!(rt; read_line(&[b'#'; 1_024], 7), Ok(Line::Skip));
     }
 
+    fn fails(rt: &impl Abort, text: &[u8], why: LineWhy, code: u8) {
+        let fault = LineFault { line: 7, why };
+        assert_eq!(rt; read_line(text, 7), Err(fault));
+        assert_eq!(rt; why as u8, code);
+    }
+
+    // The faults of a line as a whole.
     #[test]
-    fn faulty_lines(rt: HostRuntime) {
-        let fault = LineFault {
-            line: 7,
-            why: LineWhy::Word,
-        };
-        for text in [
-            "64 get 4",
-            "0 SET 4 1",
-            "0 get",
-            "0 get 4 4",
-            "0 set 4 1000000000000",
-            "0 set 4 -1",
-            "0 get 4a",
-            "0 get 1234567890123456",
-            "000000000000000000000 get 4",
-            "0 rate 44",
-            "cut",
+    fn faulty_forms(rt: HostRuntime) {
+        for (text, why, code) in [
+            ("64 get 4", LineWhy::Caller, 1),
+            ("000000000000000000000 get 4", LineWhy::Caller, 1),
+            ("99999999999999999999 get 4", LineWhy::Caller, 1),
+            ("-1 get 4", LineWhy::Caller, 1),
+            ("Cut", LineWhy::Caller, 1),
+            ("cut", LineWhy::Caller, 1),
+            ("64", LineWhy::Caller, 1),
+            ("0", LineWhy::Word, 2),
+            ("0 SET 4 1", LineWhy::Word, 2),
+            ("0 swap 4 1 2", LineWhy::Word, 2),
+            ("0 get", LineWhy::Count, 3),
+            ("0 get 4x 4", LineWhy::Count, 3),
+            ("0 del", LineWhy::Count, 3),
+            ("0 set 4 1 1", LineWhy::Count, 3),
+            ("0 set x", LineWhy::Count, 3),
+            ("0 rate 4 4", LineWhy::Count, 3),
+            ("0 list 1 2", LineWhy::Count, 3),
+            ("0 list 1 2 3 4", LineWhy::Count, 3),
         ] {
-            assert_eq!(rt; read_line(text.as_bytes(), 7), Err(fault), "{text}");
+            fails(&rt, text.as_bytes(), why, code);
         }
-        assert_eq!(rt; read_line(&[b'#'; 1_025], 7), Err(fault));
+        fails(&rt, &[b'#'; 1_025], LineWhy::Long, 8);
+        fails(&rt, &[b'x'; 1_025], LineWhy::Long, 8);
+        fails(&rt, &[b'x'; 1_024], LineWhy::Caller, 1);
+    }
+
+    // The faults of arguments: the leftmost counts.
+    #[test]
+    fn faulty_arguments(rt: HostRuntime) {
+        for (text, why, code) in [
+            ("0 get 4x", LineWhy::Prefix, 4),
+            ("0 del 1234567890123456", LineWhy::Prefix, 4),
+            ("0 set 4x -1", LineWhy::Prefix, 4),
+            ("0 list x 2 0", LineWhy::Prefix, 4),
+            ("0 list 1 2x 0", LineWhy::Prefix, 4),
+            ("0 rate 4a", LineWhy::Number, 5),
+            ("0 rate 1234567890123456", LineWhy::Number, 5),
+            ("0 set 4 1000000000000", LineWhy::Rate, 6),
+            ("0 set 4 -1", LineWhy::Rate, 6),
+            ("0 list 1 2 0", LineWhy::Limit, 7),
+            ("0 list 1 2 1001", LineWhy::Limit, 7),
+            ("0 list 1 2 x", LineWhy::Limit, 7),
+        ] {
+            fails(&rt, text.as_bytes(), why, code);
+        }
     }
 }

@@ -1,6 +1,4 @@
 ghost use Rattle.std.specs.Prelude.{◌≡◌, ◌≤◌, ◌<◌, ◌+◌, ◌∷◌, [], ◌++◌, false, length, position, All, MatchOption, IfSome, IfNone, IfOk, OnOk, IsSome, List, ℕ, Bool};
-ghost use Rattle.palm_base.specs.Table.{IsPlain};
-ghost use Rattle.palm_base.specs.History.{ArePlain};
 ghost use Rattle.palm_script.specs.Script.{is_feed, without_return as without, lines_of, next_entry, entries_from, script_of, AreCounts, Says};
 
 use crate::input::MOST_BYTES;
@@ -53,12 +51,9 @@ fn add_entry(
     call: Call,
 ) -> Result<(), NoMemory>
     requires caller { caller ≤ MOST_CALLER }
-    requires call { IsPlain call }
-    requires plain { ArePlain entries.old.items }
     requires counts { AreCounts counts.old entries.old.items }
     requires few { length entries.old.items ≤ MOST_BYTES }
     ensures added { OnOk result (entries.new.items ≡ entries.old.items ++ next_entry entries.old.items caller call ∷ []) }
-    ensures plain { OnOk result (ArePlain entries.new.items) }
     ensures counts { OnOk result (AreCounts counts.new entries.new.items) }
 {
     let place = counts[caller as usize];
@@ -78,7 +73,6 @@ fn add_entry(
 pub fn read_script(alloc: Global, text: &[u8], whole: bool) -> Result<Script, NoMemory>
     requires { length text.now ≤ MOST_BYTES }
     ensures says { IfOk result (λ script. Says (script_of text.now whole) script) }
-    ensures plain { IfOk result (λ script. ArePlain script.entries.items) }
     ensures few { IfOk result (λ script. length script.entries.items ≤ length text.now) }
 {
     let mut entries = Vec::new(alloc);

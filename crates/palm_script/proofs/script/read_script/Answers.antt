@@ -1,4 +1,4 @@
-use Rattle.std.proofs.Common.{refl, arith, rules}
+use Rattle.std.proofs.Common.{refl, arith}
 use Rattle.std.proofs.lemmas.List.{get_or-replicate}
 use Rattle.palm_script.proofs.script.read_script.Goals as goal
 
@@ -6,7 +6,6 @@ pub loop-first-init : goal.loop-first-init
 loop-first-init c = record {
   entries = rw c.new-entries.ensures.items refl;
   fault = refl;
-  plain = rw c.new-entries.ensures.items (search rules);
   counts = λ k lt. rw c.new-entries.ensures.items (get_or-replicate 64 k 0 0 lt);
   few = rw c.new-entries.ensures.items (omega arith);
   turns = omega arith;

@@ -1,5 +1,4 @@
 use Rattle.std.proofs.Common.{◌≡◌, ◌+◌, ◌≤◌, [], ◌++◌, length}
-use Rattle.palm_base.specs.History.{ArePlain}
 use Rattle.palm_script.specs.Script.{outcome_from, lines_of, script_of, entries_from, AreCounts}
 use Rattle.palm_script.proofs.script.read_script.Given as goal
 
@@ -7,7 +6,6 @@ abbrev pub invariant-loop-first : goal.invariant-loop-first
 invariant-loop-first l = record {
   entries : l.entries.items ++ entries_from l.entries.items (outcome_from l.line (lines_of l.rest l.whole)).items ≡ entries_from [] (script_of l.text l.whole).items;
   fault : (outcome_from l.line (lines_of l.rest l.whole)).fault ≡ (script_of l.text l.whole).fault;
-  plain : ArePlain l.entries.items;
   counts : AreCounts l.counts l.entries.items;
   few : length l.entries.items + 1 ≤ l.line;
   turns : l.line + length l.rest ≤ length l.text + 1;
