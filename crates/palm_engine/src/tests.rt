@@ -263,3 +263,54 @@ fn a_batch_is_the_front_of_the_roll(rt: HostRuntime) -> Result<(), Fail> {
     assert!(rt; left.as_slice() == b"tree 1 2\nleaf 2 10 10 11 11\n".as_slice());
     Ok(())
 }
+
+// Runs a roll as one batch. Where memory is refused it says so, the shape is that of before, and the batch is run once more.
+fn run_in_spite<R: Threads + Sync + Abort + Print, L: Ledger>(
+    rt: &R,
+    alloc: Global,
+    engine: &mut Engine,
+    roll: &[Entry],
+    steps: &mut Steps<L>,
+) -> Result<(), Fail> {
+    let before = shape_of(alloc, engine)?;
+    if engine.run_list(rt, roll, ALL, 1, &OpenGate, steps).is_err() {
+        println!(rt; "a batch was refused")?;
+        let kept = shape_of(alloc, engine)?;
+        assert!(rt; kept.as_slice() == before.as_slice(), "a refused batch");
+        engine.run_list(rt, roll, ALL, 1, &OpenGate, steps)?;
+    }
+    Ok(())
+}
+
+// Builds a tree of three levels and takes it down to a leaf, and gives the shapes of both.
+fn grown_and_felled<R: Threads + Sync + Abort + Print, L: Ledger>(
+    rt: &R,
+    alloc: Global,
+    blank: Blank,
+) -> Result<(Vec<u8>, Vec<u8>), Fail>
+    requires name { blank.name ≡ L.name }
+    requires parts { blank.parts ≡ L.parts }
+    requires blank { 0 < blank.parts }
+{
+    let mut steps = Steps::<L>::new(blank);
+    let sets = roll_of(rt, alloc, Edits::Sets(100, 499))?;
+    let dels = roll_of(rt, alloc, Edits::Dels(110, 499))?;
+    let mut engine = Engine::new(alloc)?;
+    run_in_spite(rt, alloc, &mut engine, &sets, &mut steps)?;
+    let grown = shape_of(alloc, &engine)?;
+    run_in_spite(rt, alloc, &mut engine, &dels, &mut steps)?;
+    Ok((grown, shape_of(alloc, &engine)?))
+}
+
+// Where no memory is refused, this tells only what both batches leave. tools/refuse_allocations runs it with each allocation
+// refused in turn.
+#[test]
+fn a_refused_batch_leaves_the_shape_of_before(rt: HostRuntime) -> Result<(), Fail> {
+    let alloc = rt.alloc();
+    let three = shape_text(alloc, THREE_LEVELS, &full_leaves())?;
+    let one = shape_text(alloc, "tree 1 10\n", &[("leaf 10", 100, 109)])?;
+    let (grown, felled) = grown_and_felled::<HostRuntime, Brand>(&rt, alloc, Blank::new(1))?;
+    assert!(rt; grown.as_slice() == three.as_slice(), "the Sets");
+    assert!(rt; felled.as_slice() == one.as_slice(), "the Dels");
+    Ok(())
+}
