@@ -3,9 +3,9 @@ use Rattle.std.proofs.Common.{◌≡◌, ℕ, ◌+◌, List, [], ◌∷◌, ◌+
 use Rattle.std.specs.Prelude.{sum}
 use Rattle.std.proofs.lemmas.List.Sums.{sum_by-cons}
 use Rattle.std.proofs.lemmas.List.{length-drop, map-append, nil_from_length, take-append-drop}
-use Rattle.palm_base.specs.Table.{after, after_all}
+use Rattle.palm_base.specs.Table.{answer, after, after_all}
 use Rattle.palm_base.specs.Tree.{Tree, rows_of}
-use Rattle.palm_base.specs.History.{calls_of}
+use Rattle.palm_base.specs.History.{calls_of, table_after, replies_to}
 use Rattle.palm_base.specs.Pass.{batch_tree, tree_after}
 use Rattle.palm_base.specs.Lawful.{IsLawful}
 use Rattle.palm_base.specs.Laws.{HistoriesGoByCalls}
@@ -14,6 +14,16 @@ use Rattle.palm_base.proofs.Tables.{after_all_append}
 use Rattle.palm_base.proofs.Batches.{batches_keep_rows, batches_keep_law}
 use Rattle.palm_base.specs.declared.row.Row.{Row}
 use Rattle.palm_base.specs.declared.call.Entry.{Entry}
+use Rattle.palm_base.specs.declared.call.Reply.{Reply}
+
+-- One history after another: the table that both leave, and the replies to both.
+pub table_after-append : (rows : List Row) (xs ys : List Entry) → table_after rows (xs ++ ys) ≡ table_after (table_after rows xs) ys
+table_after-append rows [] ys = refl
+table_after-append rows (x ∷ xs) ys = table_after-append (after rows x.call) xs ys
+
+pub replies_to-append : (rows : List Row) (xs ys : List Entry) → replies_to rows (xs ++ ys) ≡ replies_to rows xs ++ replies_to (table_after rows xs) ys
+replies_to-append rows [] ys = refl
+replies_to-append rows (x ∷ xs) ys = ap (λ (replies : List Reply). answer rows x.call ∷ replies) (replies_to-append (after rows x.call) xs ys)
 
 pub histories_go_by_calls : HistoriesGoByCalls
 histories_go_by_calls rows [] = refl

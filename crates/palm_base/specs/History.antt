@@ -1,7 +1,7 @@
 -- Histories: calls in the order of their arrival, each with its caller and its place among the caller's calls.
 use Rattle.std.specs.Prelude.{◌≡◌, ℕ, ◌+◌, ◌==◌, ◌<◌, List, [], ◌∷◌, length, map, take, drop, sum, filter, All, slice_index, slice_index_or}
 use Rattle.std.specs.List.{AllByRecursion}
-use Rattle.palm_base.specs.Table.{answer, after, IsPlain}
+use Rattle.palm_base.specs.Table.{answer, after}
 use Rattle.palm_base.specs.declared.row.Row.{Row}
 use Rattle.palm_base.specs.declared.call.Call.{Call}
 use Rattle.palm_base.specs.declared.call.Reply.{Reply}
@@ -25,10 +25,6 @@ table_at rows entries n = table_after rows (take n entries)
 abbrev pub replies_to : List Row → List Entry → List Reply
 replies_to rows [] = []
 replies_to rows (entry ∷ entries) = answer rows entry.call ∷ replies_to (after rows entry.call) entries
-
--- Each call is a Set, a Del or a Get. So those of Set 44 5, Get 44 are plain, and those of Get 44, Rate 44 are not.
-abbrev pub ArePlain : List Entry → Type 0
-ArePlain entries = All (λ (entry : Entry). IsPlain entry.call) entries
 
 -- The entries of one caller, in order.
 abbrev pub entries_of : ℕ → List Entry → List Entry

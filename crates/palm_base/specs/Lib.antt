@@ -8,6 +8,7 @@ pub mod Lawful
 pub mod Laws
 pub mod Literal
 pub mod Lows
+pub mod Numbers
 pub mod Pass
 pub mod Place
 pub mod Prefix

@@ -79,11 +79,3 @@ after rows (Listing from to limit) = rows
 abbrev pub after_all : List Row → List Call → List Row
 after_all rows [] = rows
 after_all rows (call ∷ calls) = after_all (after rows call) calls
-
--- A Set, a Del or a Get.
-abbrev pub IsPlain : Call → Type 0
-IsPlain (Set prefix rate) = Unit {0}
-IsPlain (Del prefix) = Unit {0}
-IsPlain (Get prefix) = Unit {0}
-IsPlain (Rate number) = ⊥
-IsPlain (Listing from to limit) = ⊥

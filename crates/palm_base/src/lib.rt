@@ -7,6 +7,7 @@ mod call;
 mod digits;
 pub mod laws;
 mod memory;
+mod number;
 mod row;
 mod search;
 mod steps;
@@ -20,6 +21,7 @@ pub use bounds::{LEAST_CHILDREN, LEAST_LEAF_ROWS, MOST_CHILDREN, MOST_LEAF_ROWS,
 pub use call::{Call, Entry, Reply};
 pub use digits::{Digits, DigitsFault, MOST_DIGITS};
 pub use memory::NoMemory;
+pub use number::{MOST_NUMBER_DIGITS, number_from_to};
 pub use row::{Row, RowList};
 pub use search::find_row;
 pub use steps::Steps;

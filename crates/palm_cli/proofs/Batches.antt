@@ -12,17 +12,6 @@ use Rattle.palm_base.specs.Pass.{batch_tree, tree_after}
 use Rattle.palm_base.specs.Tree.{Tree}
 use Rattle.palm_script.specs.Transcript.{batch_text, batches_text, cut_by}
 
--- Of a list that is short enough all is taken.
-pub take_all : {X : Type 0} (n : ℕ) (xs : List X) → length xs ≤ n → take n xs ≡ xs
-take_all zero [] few = refl
-take_all zero (x ∷ xs) few = absurd (omega arith)
-take_all (suc n) [] few = refl
-take_all (suc n) (x ∷ xs) few = ap (λ (l : List _). x ∷ l) (take_all n xs (omega arith))
-
-pub table_after-append : (rows : List Row) (xs ys : List Entry) → table_after rows (xs ++ ys) ≡ table_after (table_after rows xs) ys
-table_after-append rows [] ys = refl
-table_after-append rows (x ∷ xs) ys = table_after-append (after rows x.call) xs ys
-
 -- the last length, where it isn't 0
 abbrev left_over : ℕ → List ℕ
 left_over r = cond (eqb r 0) [] (r ∷ [])

@@ -3,7 +3,8 @@ use Rattle.std.proofs.Common.{◌≡◌, true, false, [], ◌∷◌, refl}
 use Rattle.std.specs.Prelude.{codes, None, Some, Ok, Err}
 use Rattle.std.specs.Fmt.{digits}
 use Rattle.palm_base.specs.declared.call.Call.TheVariants.{Set, Get, List as Listing}
-use Rattle.palm_script.specs.Line.{fields, number_of, line_of, fault_text}
+use Rattle.palm_base.specs.Numbers.{number_of}
+use Rattle.palm_script.specs.Line.{fields, line_of, fault_text}
 use Rattle.palm_script.specs.Script.{lines_of, script_of, entries_from}
 use Rattle.palm_script.specs.Transcript.{cut_by, straight, final_of}
 use Rattle.palm_script.specs.declared.line.Line.TheVariants.{Skip, Made}

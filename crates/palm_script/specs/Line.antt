@@ -1,11 +1,11 @@
 -- One line of a script: its fields, and what they say.
-use Rattle.std.specs.Prelude.{◌≤◌, ℕ, ◌==◌, nat_lt, nat_le, Bool, not, ◌&&◌, ◌||◌, if◌then◌else◌, List, [], ◌∷◌, ◌++◌, length, filter, slice_index, codes, Option, Some, None, Result, Ok, Err, is_ok}
-use Rattle.std.specs.List.{slice_split, list_all}
+use Rattle.std.specs.Prelude.{◌≤◌, ℕ, ◌==◌, nat_lt, Bool, ◌||◌, if◌then◌else◌, List, [], ◌∷◌, ◌++◌, length, filter, slice_index, codes, Result, Ok, Err, is_ok}
+use Rattle.std.specs.List.{slice_split}
 use Rattle.std.specs.Fmt.{decimal}
-use Rattle.std.specs.Int.Digits.{number_from_digits}
 use Rattle.std.specs.Result.{result_map_both}
 use Rattle.std.specs.Str.{bytes_eq}
-use Rattle.palm_base.specs.Prefix.{read_of, digits_in, is_no_digit}
+use Rattle.palm_base.specs.Prefix.{read_of, digits_in}
+use Rattle.palm_base.specs.Numbers.{value_of, is_from_to}
 use Rattle.palm_base.specs.declared.amount.TheConstants.{MOST_RATE, MOST_LIMIT}
 use Rattle.palm_base.specs.declared.call.Call.{Call}
 use Rattle.palm_base.specs.declared.call.Call.TheVariants.{Set, Del, Get, Rate, List as Listing}
@@ -24,22 +24,6 @@ is_blank b = b == 32 || b == 9
 -- The fields of a line: the parts between blanks and tabs that aren't empty. So " 0  get 44" has "0", "get" and "44".
 abbrev pub fields : List ℕ → List (List ℕ)
 fields text = filter (λ part. nat_lt 0 (length part)) (slice_split is_blank text)
-
--- The value of a field of digits. So that of "007" is 7.
-abbrev pub value_of : List ℕ → ℕ
-value_of field = number_from_digits 10 (digits_in field)
-
--- A number field: 1 to 20 digits. So "007" is one, and "+7" isn't.
-abbrev pub is_number : List ℕ → Bool
-is_number field = nat_lt 0 (length field) && nat_le (length field) 20 && list_all (λ b. not (is_no_digit b)) field
-
--- The value of a number field. So "007" is 7, and "+7" is no number.
-abbrev pub number_of : List ℕ → Option ℕ
-number_of field = if is_number field then Some (value_of field) else None
-
--- A number field whose value is from one number to another, both included. So "05" is one from 1 to 9, and "0" isn't.
-abbrev pub is_from_to : ℕ → ℕ → List ℕ → Bool
-is_from_to least most field = is_number field && nat_le least (value_of field) && nat_le (value_of field) most
 
 abbrev pub is_caller : List ℕ → Bool
 is_caller field = is_from_to 0 MOST_CALLER field

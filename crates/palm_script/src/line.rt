@@ -1,9 +1,10 @@
 ghost use Rattle.std.specs.Prelude.{◌≡◌, ◌≢◌, ◌≤◌, ◌<◌, ◌∷◌, [], if◌then◌else◌, Ok, Err, length, not, position, MatchOption, IfSome, IfOk, IfErr};
-ghost use Rattle.std.specs.List.{position_or_len, list_all};
-ghost use Rattle.palm_base.specs.Prefix.{is_no_digit, digits_in};
-ghost use Rattle.palm_script.specs.Line.{is_blank, fields, value_of, number_of, is_from_to, is_caller, is_rate, is_limit, is_dialled, set_of, del_of, get_of, rate_of, list_of, call_of, made_by, meaning_of, line_of, LineFits};
+ghost use Rattle.std.specs.List.{position_or_len};
+ghost use Rattle.palm_base.specs.Prefix.{digits_in};
+ghost use Rattle.palm_base.specs.Numbers.{value_of, is_from_to};
+ghost use Rattle.palm_script.specs.Line.{is_blank, fields, is_caller, is_rate, is_limit, is_dialled, set_of, del_of, get_of, rate_of, list_of, call_of, made_by, meaning_of, line_of, LineFits};
 
-use palm_base::{Amount, Call, Digits, Limit, MOST_LIMIT, MOST_RATE};
+use palm_base::{Amount, Call, Digits, Limit, MOST_LIMIT, MOST_RATE, number_from_to};
 use std::error::Error;
 use std::fmt;
 
@@ -111,44 +112,20 @@ fn next_field(text: &[u8]) -> Option<(&[u8], &[u8])>
     Some(rest.split_at(end))
 }
 
-fn all_digits(field: &[u8]) -> bool
-    ensures { result ≡ list_all (λ b. not (is_no_digit b)) field.now }
-{
-    field.iter().all(|b| b.is_ascii_digit())
-}
-
-// The value of a number field. Twenty digits need more than 64 bits.
-fn number(field: &[u8]) -> Option<u128>
-    ensures { result ≡ number_of field.now }
-{
-    if field.is_empty() || field.len() > 20 || !all_digits(field) {
-        return None;
-    }
-    let mut value = 0u128;
-    for b in field {
-        value = value * 10 + u128::from(*b - b'0');
-    }
-    Some(value)
-}
-
 // The value of a number field, where it is from `least` to `most`, and else the fault `why`.
-fn number_from_to(field: &[u8], least: u64, most: u64, why: LineWhy) -> Result<u64, LineWhy>
+fn read_number(field: &[u8], least: u64, most: u64, why: LineWhy) -> Result<u64, LineWhy>
     ensures value { result ≡ (if is_from_to least most field.now then Ok (value_of field.now) else Err why) }
     ensures least { IfOk result (λ n. least ≤ n) }
     ensures most { IfOk result (λ n. n ≤ most) }
 {
-    let value = number(field).ok_or(why)?;
-    if value < u128::from(least) || value > u128::from(most) {
-        return Err(why);
-    }
-    Ok(value as u64)
+    number_from_to(field, least, most).ok_or(why)
 }
 
 fn read_caller(field: &[u8]) -> Result<u32, LineWhy>
     ensures value { result ≡ (if is_caller field.now then Ok (value_of field.now) else Err LineWhy.Caller) }
     ensures most { IfOk result (λ n. n ≤ MOST_CALLER) }
 {
-    let caller = number_from_to(field, 0, u64::from(MOST_CALLER), LineWhy::Caller)?;
+    let caller = read_number(field, 0, u64::from(MOST_CALLER), LineWhy::Caller)?;
     Ok(caller as u32)
 }
 
@@ -162,14 +139,14 @@ fn read_digits(field: &[u8], why: LineWhy) -> Result<Digits, LineWhy>
 fn read_rate(field: &[u8]) -> Result<Amount, LineWhy>
     ensures { result ≡ (if is_rate field.now then Ok (value_of field.now) else Err LineWhy.Rate) }
 {
-    let rate = number_from_to(field, 0, MOST_RATE, LineWhy::Rate)?;
+    let rate = read_number(field, 0, MOST_RATE, LineWhy::Rate)?;
     Amount::new(rate).ok_or(LineWhy::Rate)
 }
 
 fn read_limit(field: &[u8]) -> Result<Limit, LineWhy>
     ensures { result ≡ (if is_limit field.now then Ok (value_of field.now) else Err LineWhy.Limit) }
 {
-    let limit = number_from_to(field, 1, u64::from(MOST_LIMIT), LineWhy::Limit)?;
+    let limit = read_number(field, 1, u64::from(MOST_LIMIT), LineWhy::Limit)?;
     Limit::new(limit as u32).ok_or(LineWhy::Limit)
 }
 

@@ -8,7 +8,7 @@ use Rattle.palm_base.specs.declared.call.Reply.{Reply}
 use Rattle.palm_base.proofs.Replies.{replies_are_as_many}
 use Rattle.palm_tree.specs.TreeValue.{tree_in}
 use Rattle.palm_script.specs.Transcript.{reply_lines, batch_line}
-use Rattle.palm_cli.proofs.Batches.{take_all}
+use Rattle.palm_base.proofs.Takes.{take_all}
 use Rattle.palm_cli.proofs.run.run_batch.Goals as goal
 
 pub print_replies-requires-clause-same : goal.print_replies-requires-clause-same

@@ -5,7 +5,8 @@ use Rattle.std.specs.Io.KnownBytes.{Appends}
 use Rattle.palm_base.specs.Tree.{rows_of}
 use Rattle.palm_tree.specs.TreeValue.{tree_in}
 use Rattle.palm_script.specs.Transcript.{batch_text}
-use Rattle.palm_cli.proofs.Batches.{table_after-append, written_more, tree_more}
+use Rattle.palm_base.proofs.Histories.{table_after-append}
+use Rattle.palm_cli.proofs.Batches.{written_more, tree_more}
 use Rattle.palm_cli.proofs.run.run_history.Goals as goal
 
 pub loop-rest-preserved : goal.loop-rest-preserved
