@@ -1,0 +1,9 @@
+pub mod Agreement
+pub mod Arguments
+pub mod Examples
+pub mod HeldRows
+pub mod ItemPairs
+pub mod LoneDashes
+pub mod Turns
+pub mod Walks
+pub mod WordForms

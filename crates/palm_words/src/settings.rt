@@ -1,0 +1,66 @@
+//! What the words set, with the bounds and the defaults of the numbers.
+
+/// The greatest number of workers.
+pub const MOST_WORKERS: u32 = 64;
+
+/// The number of workers where the words don't say it.
+pub const DEFAULT_WORKERS: u32 = 1;
+
+/// The most calls of a batch.
+pub const MOST_BATCH: u32 = 65_536;
+
+/// The most calls of a batch where the words don't say it.
+pub const DEFAULT_BATCH: u32 = 4_096;
+
+/// The greatest window.
+pub const MOST_WINDOW: u32 = 64;
+
+/// The window where the words don't say it.
+pub const DEFAULT_WINDOW: u32 = 16;
+
+/// The greatest seed.
+pub const MOST_SEED: u64 = u64::MAX;
+
+/// The seed where the words don't say it.
+pub const DEFAULT_SEED: u64 = 0;
+
+/// The most calls that are made up.
+pub const MOST_CALLS: u64 = 10_000_000;
+
+/// How many calls are made up where the words don't say it.
+pub const DEFAULT_CALLS: u64 = 1_000;
+
+/// What the program does.
+#[derive(Clone, Copy, Debug, PartialEq, Eq)]
+pub enum Mode {
+    /// It runs a script.
+    Replay,
+}
+
+/// When the tree is dumped without a line that asks for it.
+#[derive(Clone, Copy, Debug, PartialEq, Eq)]
+pub enum DumpWhen {
+    /// Not at all.
+    Never,
+    /// At the end of the run.
+    AtEnd,
+    /// After each batch.
+    Always,
+}
+
+/// What the words set. A mode that has no use for a number doesn't look at it.
+#[derive(Clone, Copy, Debug, PartialEq, Eq)]
+pub struct Settings {
+    pub mode: Mode,
+    /// How many threads work on a batch.
+    pub workers: u32,
+    /// The most calls of a batch.
+    pub batch: u32,
+    /// How many calls a caller may have under way.
+    pub window: u32,
+    pub dump: DumpWhen,
+    /// What made-up calls follow from.
+    pub seed: u64,
+    /// How many calls are made up.
+    pub calls: u64,
+}
