@@ -1,9 +1,9 @@
 -- `clap`, with the values read after it, accepts the words that are of the form, and gives what they set.
-use Rattle.std.proofs.Common.{◌≡◌, ◌⊎◌, inl, inr, ◌≤◌, Bool, true, false, not, List, [], ◌∷◌, map, length, Some, None, Option, refl, sym, ap, ◌∙◌, subst, codes, true≢false, arith}
+use Rattle.std.proofs.Common.{◌≡◌, ◌⊎◌, inl, inr, ◌≤◌, Bool, true, false, not, List, [], ◌∷◌, map, length, Some, None, Option, refl, sym, ap, ◌∙◌, subst, true≢false, arith}
 use Rattle.std.specs.Prelude.{if◌then◌else◌, option_and_then, option_to_list}
 use Rattle.std.specs.List.{AllByRecursion, list_all}
 use Rattle.std.specs.Str.{bytes_eq, IsUtf8}
-use Rattle.std.proofs.lemmas.Bool.{or_cases, and_right, not-true}
+use Rattle.std.proofs.lemmas.Bool.{and_parts, and_right, not-true, or_cases}
 use Rattle.std.proofs.lemmas.Slice.Eq.{bytes_eq-Decides}
 use Rattle.clap.specs.Walk.{Row, first_of, nothing_held, rows_after, rows_of}
 use Rattle.clap.specs.Simple.{App, matches_of, names_of}
@@ -20,7 +20,7 @@ use Rattle.palm_words.specs.Command.{command_for, palm_command, set_by_matches}
 use Rattle.palm_words.specs.declared.settings.Settings.{Settings}
 use Rattle.palm_words.proofs.Arguments.{mode, rules, shape, built_is}
 use Rattle.palm_words.proofs.HeldRows.{row_for, none, none_both}
-use Rattle.palm_words.proofs.Turns.{between, both_of}
+use Rattle.palm_words.proofs.Turns.{between}
 use Rattle.palm_words.proofs.Walks.{loose_from, pair_of, pairs, fresh, accepted, joined, goes, rows_from, walks}
 use Rattle.palm_words.proofs.LoneDashes.{AreNamed, HasLone, lone_dash, Related, related}
 use Rattle.palm_words.proofs.ItemPairs.{vals, head, first_is, fresh_once, stale, known_pairs, values_are, modes_are}
@@ -81,7 +81,7 @@ bad_among : (rows : List (Text × (Text → Bool))) (values : Text → List Text
     → list_all (λ o. at_most_one o.1 (values o.0)) rows ≡ false
 bad_among [] values n dashes among bad = absurd (true≢false (sym among))
 bad_among (o ∷ os) values n dashes among bad =
-    let dash = both_of (not (o.1 lone_dash)) (list_all (λ o. not (o.1 lone_dash)) os) dashes in
+    let dash = and_parts (not (o.1 lone_dash)) (list_all (λ o. not (o.1 lone_dash)) os) dashes in
     elim (or_cases (bytes_eq o.0 n) _ among) [
       | inl e ↦ rw (bad_values o.1 (values o.0) (not-true _ dash.0) (subst (λ t. Bad (values t)) (sym ((bytes_eq-Decides o.0 n).0 e)) bad)) refl
       | inr more ↦ rw (bad_among os values n dash.1 more bad) (and_right (at_most_one o.1 (values o.0)) false refl)

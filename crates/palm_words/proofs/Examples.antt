@@ -1,5 +1,5 @@
 -- Worked examples of words, which the checker computes.
-use Rattle.std.proofs.Common.{◌≡◌, [], ◌∷◌, Some, None, refl, codes, ℕ}
+use Rattle.std.proofs.Common.{◌≡◌, [], ◌∷◌, Some, None, refl, codes}
 use Rattle.palm_words.specs.declared.settings.Mode.TheVariants.{Replay}
 use Rattle.palm_words.specs.declared.settings.DumpWhen.TheVariants.{Never, AtEnd}
 use Rattle.palm_words.specs.declared.settings.Settings.{Settings}

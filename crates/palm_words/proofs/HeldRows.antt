@@ -1,4 +1,4 @@
--- What is held between two words: a row for each thing that was read, and the last one, which is not settled yet.
+-- What `clap` holds between two words: a row for each thing that was read, and the last one, which isn't settled yet.
 use Rattle.std.proofs.Common.{◌≡◌, ◌⊎◌, inl, inr, ◌&&◌, ◌||◌, Bool, true, false, not, List, [], ◌∷◌, ◌++◌, map, Some, None, Option, refl, sym, ap, ◌∙◌, true≢false}
 use Rattle.std.specs.Prelude.{if◌then◌else◌, option_map}
 use Rattle.std.specs.List.{list_any}
@@ -17,9 +17,11 @@ use Rattle.palm_words.proofs.Arguments.{mode, opt, md, rules, by_id, by_mode}
 abbrev pub Pair : Type 0
 Pair = Text × Text
 
+-- the row of a pair
 abbrev pub row_for : Pair → Row
 row_for e = record { id = e.0; values = e.1 ∷ []; count = None; source = Some CommandLine; reading = reading_by md }
 
+-- this id stands in the pairs
 abbrev pub has : Text → List Pair → Bool
 has id kv = list_any (λ e. bytes_eq e.0 id) kv
 
@@ -29,6 +31,7 @@ pending_as p = option_map (λ e. (e.0, e.1 ∷ [])) p
 abbrev pub held : List Pair → Option (Text × List Text) → Held
 held kv p = record { rows = map row_for kv; pending = p; skip = 0 }
 
+-- there is no fault
 abbrev pub none : Kinds → Bool
 none [] = true
 none (k ∷ ks) = false
@@ -45,6 +48,7 @@ pub has_more : (id : Text) (kv : List Pair) (e : Pair) → has id (kv ++ e ∷ [
 has_more id [] e = elim (bytes_eq e.0 id) as (λ b. (b || false) ≡ b) [ true ↦ refl | false ↦ refl ]
 has_more id (x ∷ xs) e = elim (bytes_eq x.0 id) as (λ b. (b || has id (xs ++ e ∷ [])) ≡ ((b || has id xs) || bytes_eq e.0 id)) [ true ↦ refl | false ↦ has_more id xs e ]
 
+-- what has no row gets it at the end
 at_row_past : (id : Text) (change : Row → List Row) (missing rs : List Row) (r : Row) (b : Bool) → bytes_eq r.id id ≡ b → (b || has_row id rs) ≡ false
     → (has_row id rs ≡ false → at_row id change missing rs ≡ rs ++ missing) → at_row id change missing (r ∷ rs) ≡ r ∷ rs ++ missing
 at_row_past id change missing rs r true e h rest = absurd (true≢false h)

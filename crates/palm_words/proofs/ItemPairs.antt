@@ -1,9 +1,10 @@
--- Items as pairs: how often an id stands in them.
+-- Items as pairs of an id and a text: how often an id stands in them, and that its texts are the VALUEs of the option, or the mode
+-- words.
 use Rattle.std.proofs.Common.{◌≡◌, ◌⊎◌, inl, inr, ◌&&◌, ◌||◌, ◌<◌, ◌≤◌, Bool, true, false, not, List, [], ◌∷◌, ◌++◌, map, length, Some, None, Option, refl, sym, ap, ◌∙◌, subst, true≢false, cond, arith, append_assoc}
 use Rattle.std.specs.Prelude.{if◌then◌else◌, slice_get, option_and_then}
 use Rattle.std.specs.List.{find}
 use Rattle.std.specs.Str.{bytes_eq}
-use Rattle.std.proofs.lemmas.Bool.{not-true}
+use Rattle.std.proofs.lemmas.Bool.{and_parts, not-true}
 use Rattle.std.proofs.lemmas.Slice.Eq.{bytes_eq-Decides}
 use Rattle.std.proofs.lemmas.List.{append-nil, length-append}
 use Rattle.clap.specs.Walk.{Row, first_of}
@@ -12,8 +13,8 @@ use Rattle.palm_words.proofs.Arguments.{mode}
 use Rattle.palm_words.proofs.HeldRows.{Pair, has, row_for}
 use Rattle.palm_words.proofs.Walks.{pair_of, fresh}
 use Rattle.palm_words.proofs.LoneDashes.{AreNamed}
-use Rattle.palm_words.proofs.Turns.{both_of}
 
+-- the texts under an id
 abbrev pub vals : Text → List Pair → List Text
 vals id [] = []
 vals id (e ∷ es) = if bytes_eq e.0 id then e.1 ∷ vals id es else vals id es
@@ -69,21 +70,23 @@ still_one id kv e new h = rw (vals-append id kv (e ∷ [])) (at (bytes_eq e.0 id
         rw nothing (omega arith)
     at false is = rw (append-nil (vals id kv)) h
 
+-- where each id is new, none stands twice, and a mode word stands
 pub fresh_once : (id : Text) (kv es : List Pair) → fresh kv es ≡ true → length (vals id kv) ≤ 1 → length (vals id (kv ++ es)) ≤ 1
 fresh_once id kv [] f h = rw (append-nil kv) h
 fresh_once id kv (e ∷ es) f h =
-    let parts = both_of (not (has e.0 kv)) (fresh (kv ++ e ∷ []) es) f in
+    let parts = and_parts (not (has e.0 kv)) (fresh (kv ++ e ∷ []) es) f in
     let whole : (kv ++ e ∷ []) ++ es ≡ kv ++ e ∷ es = append_assoc kv (e ∷ []) es in
     subst (λ (l : List Pair). length (vals id l) ≤ 1) whole (fresh_once id (kv ++ e ∷ []) es parts.1 (still_one id kv e (not-true _ parts.0) h))
 
 pub fresh_mode : (kv es : List Pair) → fresh kv es ≡ true → 0 < length (vals mode (kv ++ es))
 fresh_mode kv [] f = rw (append-nil kv) (stands mode kv f)
 fresh_mode kv (e ∷ es) f =
-    let parts = both_of (not (has e.0 kv)) (fresh (kv ++ e ∷ []) es) f in
+    let parts = and_parts (not (has e.0 kv)) (fresh (kv ++ e ∷ []) es) f in
     let whole : (kv ++ e ∷ []) ++ es ≡ kv ++ e ∷ es = append_assoc kv (e ∷ []) es in
     subst (λ (l : List Pair). 0 < length (vals mode l)) whole (fresh_mode (kv ++ e ∷ []) es parts.1)
 
 module _ (names : List Text) where
+  -- each id is that of an option or of the mode word
   abbrev pub AreKnown : List Pair → Type 0
   AreKnown [] = Unit {0}
   AreKnown (e ∷ es) = ((is_among e.0 names ≡ true) ⊎ (e.0 ≡ mode)) × AreKnown es

@@ -1,4 +1,5 @@
--- The items that `clap` reads, and those of the words: they differ only where a lone dash stands as a VALUE or as a mode word.
+-- The items that `clap` reads, and those that the words say: they differ only where a lone dash stands as a VALUE or as a mode
+-- word, which `clap` takes and the form refuses.
 use Rattle.std.proofs.Common.{◌≡◌, ◌⊎◌, inl, inr, ◌&&◌, Bool, true, false, not, List, [], ◌∷◌, map, Some, None, Option, refl, ap, codes, take}
 use Rattle.std.specs.Prelude.{if◌then◌else◌}
 use Rattle.std.specs.Str.{bytes_eq}
@@ -19,6 +20,7 @@ HasLone [] = ⊥
 HasLone (i ∷ is) = IsLone i ⊎ HasLone is
 
 module _ (names : List Text) where
+  -- options have names of these
   abbrev pub IsNamed : Item → Type 0
   IsNamed (option n v) = is_among n names ≡ true
   IsNamed (mode_word w) = Unit {0}
@@ -27,6 +29,7 @@ module _ (names : List Text) where
   AreNamed [] = Unit {0}
   AreNamed (i ∷ is) = IsNamed i × AreNamed is
 
+  -- items of the words, and those that `clap` reads
   abbrev pub Related : Option (List Item) → Option (List Item) → Type 0
   Related None None = Unit {0}
   Related (Some is) None = ⊥
@@ -45,6 +48,7 @@ module _ (names : List Text) where
   only i None (Some ls) n lone r = ((n, r.0), inl lone)
   only i (Some is) (Some ls) n lone r = ((n, r.0), inl lone)
 
+  -- a word that is taken as an item, unless it begins with a dash
   taken_word : (i : Item) (word : Text) (o l : Option (List Item)) (b c : Bool) → begins_with_dash word ≡ b → bytes_eq word (codes "-") ≡ c → IsNamed i → (word ≡ lone_dash → IsLone i) → Related o l
       → Related (if b then None else then_items i o) (if (b && not c) then None else then_items i l)
   taken_word i word o l false c eb ec n lone r = both i o l n r

@@ -1,9 +1,10 @@
--- What `clap`'s walk makes of one word.
+-- What `clap`'s walk makes of one word, by where it stands and how the word looks: whether the word passes, and where the walk
+-- stands then.
 use Rattle.std.proofs.Common.{◌≡◌, ◌⊎◌, inl, inr, ◌&&◌, ◌||◌, ℕ, Bool, true, false, not, List, [], ◌∷◌, ◌++◌, map, Some, None, Option, refl, sym, ap, ◌∙◌, true≢false, slice_get}
 use Rattle.std.specs.Str.{bytes_eq, chars}
-use Rattle.std.proofs.lemmas.Bool.{not-true}
+use Rattle.std.proofs.lemmas.Bool.{and_parts, and_right, not-true}
 use Rattle.clap.specs.Lexer.{long_of, short_of}
-use Rattle.std.proofs.lemmas.Bool.{and_right}
+use Rattle.std.proofs.Math.Bool.{and-true}
 use Rattle.std.proofs.lemmas.Slice.Eq.{bytes_eq-Decides}
 use Rattle.clap.specs.Walk.{Held, Row, Text, Walk, Waiting, idle, option, positional, is_pending, subcommand_met, takes_several, to_positional, value, arg_by_index, settled, used, walked}
 use Rattle.clap.specs.Kinds.{Kinds, or_else}
@@ -14,6 +15,7 @@ use Rattle.palm_words.proofs.HeldRows.{Pair, row_for, has, pending_as, held, non
 
 -- ---- where the walk stands
 
+-- the place of the next mode word, by whether one was read
 abbrev pub place : Bool → ℕ
 place true = 2
 place false = 1
@@ -29,34 +31,29 @@ between trailing q kv p = stands (held kv (pending_as p)) idle q trailing
 abbrev pub waits : Bool → ℕ → List Pair → Text → Walk
 waits trailing q kv n = stands (held kv (Some (n, []))) (option n) q trailing
 
-and_if : (a b c : Bool) → (a ≡ true → b ≡ c) → (a && b) ≡ (a && c)
+-- two tests agree where their second parts agree after the first
+pub and_if : (a b c : Bool) → (a ≡ true → b ≡ c) → (a && b) ≡ (a && c)
 and_if true b c h = h refl
 and_if false b c h = refl
 
-pub both_of : (a b : Bool) → (a && b) ≡ true → (a ≡ true) × (b ≡ true)
-both_of true b h = (refl, h)
-both_of false b h = absurd (true≢false (sym h))
-
-or_none : (a : Kinds) → none (or_else a []) ≡ none a
-or_none [] = refl
-or_none (k ∷ ks) = refl
+or_nothing : (a : Kinds) → none (or_else a []) ≡ none a
+or_nothing [] = refl
+or_nothing (k ∷ ks) = refl
 
 no_subcommand : (waiting : Waiting) (word : Text) → subcommand_met [] waiting word ≡ None
 no_subcommand idle word = refl
 no_subcommand (option n) word = refl
 no_subcommand positional word = refl
 
-and_true : (b : Bool) → (b && true) ≡ b
-and_true true = refl
-and_true false = refl
-
 same_text : (n : Text) → bytes_eq n n ≡ true
 same_text n = (bytes_eq-Decides n n).1 refl
 
 module _ (names : List Text) (apart : is_among mode names ≡ false) where
+  -- the word passes
   abbrev pub passes : Walk → Text → Bool
   passes w word = none (turn_fault (shape (rules names)) [] w word)
 
+  -- where the walk stands after it
   abbrev pub next_of : Walk → Text → Walk
   next_of w word = walked (rules names) [] w word
 
@@ -73,14 +70,14 @@ module _ (names : List Text) (apart : is_among mode names ≡ false) where
     pub given_passes : (p : Option Pair) (n v : Text) → Known names apart p → bytes_eq word two_dashes ≡ false → long_of word ≡ Some (n, Some v) → is_among n names ≡ true
         → passes (between false q kv p) word ≡ (fits kv p && not (has n (after kv p)))
     given_passes p n v k e l among =
-        rw (e, l, by_long names n among) (or_none _ ∙ none_both _ _ ∙ ap (λ b. b && none (use_fault false (opt n) (v ∷ []) (settled (rules names) (held kv (pending_as p))).rows)) (settles names apart kv p k)
+        rw (e, l, by_long names n among) (or_nothing _ ∙ none_both _ _ ∙ ap (λ b. b && none (use_fault false (opt n) (v ∷ []) (settled (rules names) (held kv (pending_as p))).rows)) (settles names apart kv p k)
         ∙ and_if (fits kv p) _ _ (λ f. ap (λ (h : Held). none (use_fault false (opt n) (v ∷ []) h.rows)) (settled_is names apart kv p k f) ∙ option_fault_is n v (after kv p)))
 
     pub given_next : (p : Option Pair) (n v : Text) → Known names apart p → bytes_eq word two_dashes ≡ false → long_of word ≡ Some (n, Some v) → is_among n names ≡ true
         → (fits kv p && not (has n (after kv p))) ≡ true → next_of (between false q kv p) word ≡ between false q (after kv p ++ (n, v) ∷ []) None
     unfolding walked
     given_next p n v k e l among fit =
-        let parts = both_of (fits kv p) (not (has n (after kv p))) fit in
+        let parts = and_parts (fits kv p) (not (has n (after kv p))) fit in
         let rows : used (opt n) (v ∷ []) (settled (rules names) (held kv (pending_as p))).rows ≡ map row_for (after kv p ++ (n, v) ∷ []) =
         ap (λ (h : Held). used (opt n) (v ∷ []) h.rows) (settled_is names apart kv p k parts.0) ∙ option_used n v (after kv p) (not-true _ parts.1) in
         rw (e, l, by_long names n among) (ap (λ (rs : List Row). stands (record { rows = rs; pending = None; skip = 0 }) idle q false) rows)
@@ -88,7 +85,7 @@ module _ (names : List Text) (apart : is_among mode names ≡ false) where
     -- the name of an option, whose value is the next word
     pub named_passes : (p : Option Pair) (n : Text) → Known names apart p → bytes_eq word two_dashes ≡ false → long_of word ≡ Some (n, None) → is_among n names ≡ true
         → passes (between false q kv p) word ≡ fits kv p
-    named_passes p n k e l among = rw (e, l, by_long names n among) (or_none _ ∙ settles names apart kv p k)
+    named_passes p n k e l among = rw (e, l, by_long names n among) (or_nothing _ ∙ settles names apart kv p k)
 
     pub named_next : (p : Option Pair) (n : Text) → Known names apart p → bytes_eq word two_dashes ≡ false → long_of word ≡ Some (n, None) → is_among n names ≡ true
         → fits kv p ≡ true → next_of (between false q kv p) word ≡ waits false q (after kv p) n
@@ -113,7 +110,7 @@ module _ (names : List Text) (apart : is_among mode names ≡ false) where
     value_fault_is p true k at is = rw (at, is, second_word names) (sym (and_right (fits kv p) false refl))
     value_fault_is p false k at is =
         let several : (is_pending md (pending_as p) && takes_several md) ≡ false = and_right _ _ refl in
-        rw (at, is, first_word names, several) (settles names apart kv p k ∙ sym (and_true (fits kv p)))
+        rw (at, is, first_word names, several) (settles names apart kv p k ∙ sym (and-true (fits kv p)))
 
     pub mode_passes : (t : Bool) (p : Option Pair) → Known names apart p → q ≡ place (has mode (after kv p))
         → (t ≡ true) ⊎ ((bytes_eq word two_dashes ≡ false) × (long_of word ≡ None) × (short_of word ≡ None))
@@ -125,7 +122,7 @@ module _ (names : List Text) (apart : is_among mode names ≡ false) where
     value_next : (t : Bool) (p : Option Pair) → Known names apart p → q ≡ place (has mode (after kv p)) → (fits kv p && not (has mode (after kv p))) ≡ true
         → to_positional (rules names) (arg_by_index (rules names) q) word (between t q kv p) (held kv (pending_as p)) ≡ between t 2 (after kv p) (Some (mode, word))
     value_next t p k at fit =
-        let parts = both_of (fits kv p) (not (has mode (after kv p))) fit in
+        let parts = and_parts (fits kv p) (not (has mode (after kv p))) fit in
         let one : q ≡ 1 = at ∙ ap place (not-true _ parts.1) in
         let several : (is_pending md (pending_as p) && takes_several md) ≡ false = and_right _ _ refl in
         rw (one, first_word names, several) (ap (λ (h : Held). stands (record { rows = h.rows; pending = Some (mode, word ∷ []); skip = 0 }) idle 2 (t || false)) (settled_is names apart kv p k parts.0) ∙ elim t as (λ b. stands (held (after kv p) (Some (mode, word ∷ []))) idle 2 (b || false) ≡ between b 2 (after kv p) (Some (mode, word))) [ true ↦ refl | false ↦ refl ])

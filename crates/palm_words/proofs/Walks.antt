@@ -1,11 +1,13 @@
--- What `clap`'s walk makes of all the words.
+-- What `clap`'s walk makes of all the words: it accepts them exactly where each id stands once and a mode word stands, and then
+-- holds a row for each item.
 use Rattle.std.proofs.Common.{◌≡◌, ◌⊎◌, inl, inr, ◌&&◌, ◌||◌, ℕ, Bool, true, false, not, List, [], ◌∷◌, ◌++◌, map, Some, None, Option, refl, sym, ap, ◌∙◌, cond, true≢false, subst, append_assoc}
 use Rattle.std.specs.Prelude.{if◌then◌else◌, option_map}
 use Rattle.std.specs.List.{fold, find, AllByRecursion}
 use Rattle.std.specs.Option.{option_map_or}
 use Rattle.clap.specs.Facts.{explicit_source}
 use Rattle.std.specs.Str.{bytes_eq, IsUtf8}
-use Rattle.std.proofs.lemmas.Bool.{and_right, or_right}
+use Rattle.std.proofs.Math.Bool.{and_assoc, and-true, or-false}
+use Rattle.std.proofs.lemmas.Bool.{and_parts, and_right, or_right}
 use Rattle.std.proofs.lemmas.Slice.Eq.{bytes_eq-Decides}
 use Rattle.std.proofs.lemmas.List.{append-nil}
 use Rattle.clap.specs.Lexer.{long_of, short_of}
@@ -17,7 +19,7 @@ use Rattle.palm_words.specs.Items.{Item, option, mode_word, is_among, names_opti
 use Rattle.palm_words.proofs.Arguments.{mode, rules, shape, by_id, no_defaults, finished_rows, lacks_mode}
 use Rattle.palm_words.proofs.HeldRows.{Pair, row_for, has, has_more, pending_as, held, none, none_both, after, fits, Known, settles, settled_is}
 use Rattle.palm_words.proofs.WordForms.{Look, ends, long, short, plain, look, refused}
-use Rattle.palm_words.proofs.Turns.{place, between, waits, both_of, passes, next_of, ends_passes, ends_next, given_passes, given_next, named_passes, named_next, unknown_fails, short_fails, mode_passes, mode_next, value_passes, value_taken, ends_waiting, ends_waiting_passes, option_fails, doomed}
+use Rattle.palm_words.proofs.Turns.{place, between, waits, and_if, passes, next_of, ends_passes, ends_next, given_passes, given_next, named_passes, named_next, unknown_fails, short_fails, mode_passes, mode_next, value_passes, value_taken, ends_waiting, ends_waiting_passes, option_fails, doomed}
 
 -- the items of the words as `clap` reads them: it takes a lone dash as a VALUE and as a mode word
 abbrev pub loose_from : List Text → Option Text → List Text → Option (List Item)
@@ -30,6 +32,7 @@ loose_from names None (word ∷ rest) =
     else (if names_option names word then with_value (name_in word) (value_in word) (λ waiting. loose_from names waiting rest)
     else (if refused word then None else then_items (mode_word word) (loose_from names None rest)))
 
+-- an item as an id and its text
 abbrev pub pair_of : Item → Pair
 pair_of (option name value) = (name, value)
 pair_of (mode_word word) = (mode, word)
@@ -42,34 +45,20 @@ abbrev pub fresh : List Pair → List Pair → Bool
 fresh kv [] = has mode kv
 fresh kv (e ∷ es) = not (has e.0 kv) && fresh (kv ++ e ∷ []) es
 
+-- the same, where no word was refused
 abbrev pub accepted : List Pair → Option (List Pair) → Bool
 accepted kv None = false
 accepted kv (Some es) = fresh kv es
 
+-- the pairs after both
 abbrev pub joined : List Pair → Option (List Pair) → List Pair
 joined kv None = kv
 joined kv (Some es) = kv ++ es
-
-and_assoc : (a b c : Bool) → ((a && b) && c) ≡ (a && (b && c))
-and_assoc true b c = refl
-and_assoc false b c = refl
-
-and_if : (a b c : Bool) → (a ≡ true → b ≡ c) → (a && b) ≡ (a && c)
-and_if true b c h = h refl
-and_if false b c h = refl
-
-and_true : (b : Bool) → (b && true) ≡ b
-and_true true = refl
-and_true false = refl
 
 and_twice : (a b : Bool) → ((a && b) && b) ≡ (a && b)
 and_twice true true = refl
 and_twice true false = refl
 and_twice false b = refl
-
-or_none : (b : Bool) → (b || false) ≡ b
-or_none true = refl
-or_none false = refl
 
 given_at : (b : Bool) (r : Row) (o : Option Row) (c : Bool) → explicit_source r.source ≡ true → option_map_or (λ (x : Row). explicit_source x.source) o false ≡ c
     → option_map_or (λ (x : Row). explicit_source x.source) (cond b (Some r) o) false ≡ (b || c)
@@ -97,6 +86,7 @@ module _ (names : List Text) (apart : is_among mode names ≡ false) where
   unfolding walk_fault
   goes_more w x xs = ap (λ b. b && none (end_fault (fold (walked (rules names) []) (next_of names apart w x) xs).held)) (none_both _ _) ∙ and_assoc (passes names apart w x) _ _
 
+  -- a word that passes where a holds
   steps : (w next : Walk) (x : Text) (xs : List Text) (a b : Bool) (kv : List Pair) (o : Option (List Pair)) → passes names apart w x ≡ a → (a ≡ true → next_of names apart w x ≡ next)
       → Agrees next xs b kv o → Agrees w (x ∷ xs) (a && b) kv o
   steps w next x xs true b kv o pass to h =
@@ -136,7 +126,7 @@ module _ (names : List Text) (apart : is_among mode names ≡ false) where
       let last : fits kv p ≡ true → tail (settled (rules names) h0) ≡ has mode (after kv p) =
       λ f. ap tail (settled_is names apart kv p k f) ∙ end_passes (map row_for (after kv p)) (has mode (after kv p)) (given_row (after kv p)) in (
         now ∙ settle ∙ and_if (fits kv p) _ _ last,
-        λ e. ap (λ (h : Held). fold with_default h.rows (rules names)) (settled_is names apart kv p k (both_of (fits kv p) _ e).0) ∙ finished_rows names (map row_for (after kv p)) ∙ ap (map row_for) (sym (append-nil (after kv p))),
+        λ e. ap (λ (h : Held). fold with_default h.rows (rules names)) (settled_is names apart kv p k (and_parts (fits kv p) _ e).0) ∙ finished_rows names (map row_for (after kv p)) ∙ ap (map row_for) (sym (append-nil (after kv p))),
       )
 
   waits_at_end : (t : Bool) (q : ℕ) (kv : List Pair) (n : Text) (b : Bool) → is_among n names ≡ true → Agrees (waits t q kv n) [] b kv None
@@ -160,7 +150,7 @@ module _ (names : List Text) (apart : is_among mode names ≡ false) where
   mode_place kv word = sym (ap place (has_more mode kv (mode, word) ∙ or_right (has mode kv) true refl))
 
   same_place : (kv : List Pair) (n v : Text) (q : ℕ) → is_among n names ≡ true → q ≡ place (has mode kv) → q ≡ place (has mode (kv ++ (n, v) ∷ []))
-  same_place kv n v q among at = at ∙ sym (ap place (has_more mode kv (n, v) ∙ ap (λ b. has mode kv || b) (no_mode n among) ∙ or_none (has mode kv)))
+  same_place kv n v q among at = at ∙ sym (ap place (has_more mode kv (n, v) ∙ ap (λ b. has mode kv || b) (no_mode n among) ∙ or-false (has mode kv)))
 
   agrees_as : (w : Walk) (words : List Text) (a b : Bool) (kv : List Pair) (o : Option (List Pair)) → a ≡ b → Agrees w words a kv o → Agrees w words b kv o
   agrees_as w words a b kv o same h = subst (λ c. Agrees w words c kv o) same h
@@ -195,14 +185,14 @@ module _ (names : List Text) (apart : is_among mode names ≡ false) where
       → (v : Option Text) → long_of word ≡ Some (name_in word, v) → is_among (name_in word) names ≡ true → Between rest → Waits rest
       → Agrees (between false q kv p) (word ∷ rest) (fits kv p) (after kv p) (pairs (with_value (name_in word) v (λ waiting. loose_from names waiting rest)))
   option_step word rest q kv p k at e None l among between_rest waits_rest =
-      agrees_as _ _ _ _ _ (pairs (loose_from names (Some (name_in word)) rest)) (and_true (fits kv p))
+      agrees_as _ _ _ _ _ (pairs (loose_from names (Some (name_in word)) rest)) (and-true (fits kv p))
       (steps (between false q kv p) (waits false q (after kv p) (name_in word)) word rest (fits kv p) true (after kv p) (pairs (loose_from names (Some (name_in word)) rest))
       (named_passes names apart q kv word p (name_in word) k e l among) (named_next names apart q kv word p (name_in word) k e l among) (waits_rest q (after kv p) (name_in word) among at))
   option_step word rest q kv p k at e (Some v) l among between_rest waits_rest =
       let n = name_in word in
       let o = loose_from names None rest in
       one_more (between false q kv p) (word ∷ rest) (fits kv p) (after kv p) (option n v) o
-      (agrees_as _ _ _ _ _ (pairs o) (and_true (fits kv p && not (has n (after kv p))))
+      (agrees_as _ _ _ _ _ (pairs o) (and-true (fits kv p && not (has n (after kv p))))
       (steps (between false q kv p) (between false q (after kv p ++ (n, v) ∷ []) None) word rest (fits kv p && not (has n (after kv p))) true (after kv p ++ (n, v) ∷ []) (pairs o)
       (given_passes names apart q kv word p n v k e l among) (given_next names apart q kv word p n v k e l among) (between_rest q (after kv p ++ (n, v) ∷ []) None tt (same_place (after kv p) n v q among at))))
 

@@ -10,6 +10,7 @@ use Rattle.palm_words.specs.Items.{Text, two_dashes, begins_with_dash, name_in, 
 abbrev pub refused : Text → Bool
 refused word = begins_with_dash word && not (bytes_eq word (codes "-"))
 
+-- a word ends the options, names an option, has short flags, or is none of these
 pub data Look (word : Text) : Type 0 where
   ends : bytes_eq word two_dashes ≡ true → refused word ≡ true → Look word
   long : bytes_eq word two_dashes ≡ false → long_of word ≡ Some (name_in word, value_in word) → bytes_eq (take 2 word) two_dashes ≡ true → refused word ≡ true → Look word

@@ -1,10 +1,10 @@
 -- Which words after the program's name are of the form, and what they set.
-use Rattle.std.specs.Prelude.{ℕ, ◌≤◌, ◌&&◌, Bool, true, false, if◌then◌else◌, List, [], ◌∷◌, map, codes, Option, Some, None, is_some, option_and_then, unwrap_or}
+use Rattle.std.specs.Prelude.{ℕ, ◌≤◌, Bool, true, false, if◌then◌else◌, List, [], ◌∷◌, map, codes, Option, Some, None, is_some, option_and_then, unwrap_or}
 use Rattle.std.specs.List.{list_all}
 use Rattle.std.specs.Map.{lookup}
 use Rattle.std.specs.Str.{bytes_eq}
 use Rattle.palm_base.specs.Numbers.{value_of, is_from_to}
-use Rattle.palm_words.specs.Items.{Text, Item, items_from, values_of, mode_words}
+use Rattle.palm_words.specs.Items.{Text, items_from, values_of, mode_words}
 use Rattle.palm_words.specs.declared.settings.TheConstants.{MOST_WORKERS, MOST_BATCH, MOST_WINDOW, MOST_SEED, MOST_CALLS, DEFAULT_WORKERS, DEFAULT_BATCH, DEFAULT_WINDOW, DEFAULT_SEED, DEFAULT_CALLS}
 use Rattle.palm_words.specs.declared.settings.Settings.{Settings}
 use Rattle.palm_words.specs.declared.settings.Mode.{Mode}

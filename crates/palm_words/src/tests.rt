@@ -30,90 +30,46 @@ const DEFAULTS: Settings = Settings {
     calls: 1_000,
 };
 
+fn sized(workers: u32, batch: u32, window: u32) -> Settings {
+    Settings {
+        workers,
+        batch,
+        window,
+        ..DEFAULTS
+    }
+}
+
+fn dumped(dump: DumpWhen) -> Settings {
+    Settings { dump, ..DEFAULTS }
+}
+
+fn made(seed: u64, calls: u64) -> Settings {
+    Settings {
+        seed,
+        calls,
+        ..DEFAULTS
+    }
+}
+
 #[test]
 fn words_of_the_form_set_what_they_say(rt: HostRuntime) -> Result<(), Fail> {
-    let cases = [
+    for (line, settings) in [
         ("replay", DEFAULTS),
         ("-- replay", DEFAULTS),
-        (
-            "--batch=4 replay",
-            Settings {
-                batch: 4,
-                ..DEFAULTS
-            },
-        ),
-        (
-            "--batch 4 -- replay",
-            Settings {
-                batch: 4,
-                ..DEFAULTS
-            },
-        ),
-        (
-            "replay --batch 4 --window 007",
-            Settings {
-                batch: 4,
-                window: 7,
-                ..DEFAULTS
-            },
-        ),
-        (
-            "replay --workers 64 --batch=65536 --window=64",
-            Settings {
-                workers: 64,
-                batch: 65_536,
-                window: 64,
-                ..DEFAULTS
-            },
-        ),
-        (
-            "--workers=1 --batch=1 --window=1 replay",
-            Settings {
-                workers: 1,
-                batch: 1,
-                window: 1,
-                ..DEFAULTS
-            },
-        ),
+        ("--batch=4 replay", sized(1, 4, 16)),
+        ("--batch 4 -- replay", sized(1, 4, 16)),
+        ("replay --batch 4 --window 007", sized(1, 4, 7)),
+        ("--workers 64 --window=64 replay", sized(64, 4_096, 64)),
+        ("--batch=65536 replay", sized(1, 65_536, 16)),
+        ("replay --batch=1 --window 1", sized(1, 1, 1)),
         ("--dump none replay", DEFAULTS),
-        (
-            "--dump end replay",
-            Settings {
-                dump: DumpWhen::AtEnd,
-                ..DEFAULTS
-            },
-        ),
-        (
-            "replay --dump=all",
-            Settings {
-                dump: DumpWhen::Always,
-                ..DEFAULTS
-            },
-        ),
-        (
-            "--seed 18446744073709551615 replay",
-            Settings {
-                seed: u64::MAX,
-                ..DEFAULTS
-            },
-        ),
-        (
-            "--calls 10000000 replay --seed=00000000000000000001",
-            Settings {
-                calls: 10_000_000,
-                seed: 1,
-                ..DEFAULTS
-            },
-        ),
-        (
-            "replay --calls=0",
-            Settings {
-                calls: 0,
-                ..DEFAULTS
-            },
-        ),
-    ];
-    for (line, settings) in cases {
+        ("--dump end replay", dumped(DumpWhen::AtEnd)),
+        ("replay --dump=all", dumped(DumpWhen::Always)),
+        ("--seed 18446744073709551615 replay", made(u64::MAX, 1_000)),
+        ("--seed=00000000000000000001 replay", made(1, 1_000)),
+        ("--calls 10000000 replay", made(0, 10_000_000)),
+        ("replay --calls=0", made(0, 0)),
+    ] {
         assert_eq!(rt; read(rt.alloc(), line)?, Ok(settings), "{line}");
     }
     Ok(())
@@ -124,55 +80,60 @@ fn other_words_are_wrong_usage(rt: HostRuntime) -> Result<(), Fail> {
     let none = Vec::new(rt.alloc());
     assert_eq!(rt; read_words(rt.alloc(), &none), Err(WordsFault::Usage));
     for line in [
+        // No mode, or no such mode, or two.
         "",
         "-",
         "--",
         "-- --",
         "list",
+        "help",
         "Replay",
-        "replay replay",
-        "replay list",
-        "replay -- replay",
+        "--batch 4",
+        "--batch 4 --",
         "replay ",
+        "replay list",
+        "replay replay",
+        "replay -- replay",
+        "-- --batch",
+        // No such option.
         "-h",
         "--help",
         "--version",
         "replay --help",
-        "help",
         "replay -x",
         "replay -é",
         "replay -b4",
-        "-- --batch",
         "replay --bat=4",
         "replay --Batch 4",
-        "replay --=4",
         "replay --mode=replay",
-        "replay --batch=4=5",
-        "replay --batch",
-        "replay --batch --",
-        "replay --batch -- 4",
-        "replay --batch -",
-        "replay --batch=-",
-        "replay --batch=",
-        "replay --batch ",
-        "replay --batch 0",
-        "replay --batch +4",
-        "replay --batch -4",
+        "replay --=4",
+        // An option that stands twice.
         "replay --batch=4 --batch=4",
         "replay --dump end --dump end",
+        // No VALUE, or one that begins with a dash.
+        "replay --batch",
+        "replay --batch ",
+        "replay --batch=",
         "replay --dump=",
+        "replay --batch -",
+        "replay --batch=-",
+        "replay --batch --",
+        "replay --batch -- 4",
+        "replay --batch -4",
+        // A VALUE that isn't one of the option's.
+        "replay --batch +4",
+        "replay --batch 4x",
+        "replay --batch=4=5",
         "replay --dump End",
-        "--batch 4",
-        "--batch 4 --",
-        "replay --batch 65537",
         "replay --workers 0",
         "replay --workers 65",
+        "replay --batch 0",
+        "replay --batch 65537",
         "replay --window 0",
         "replay --window 65",
-        "replay --calls 10000001",
         "replay --seed 18446744073709551616",
         "replay --seed 000000000000000000001",
-        "replay --batch 4x",
+        "replay --calls 10000001",
     ] {
         assert_eq!(rt; read(rt.alloc(), line)?, Err(WordsFault::Usage), "{line}");
     }

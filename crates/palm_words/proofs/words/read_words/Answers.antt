@@ -1,9 +1,8 @@
-use Rattle.std.proofs.Common.{◌≡◌, ◌∙◌, sym, subst, map, string_bytes, Some, None, Option, ok_or, refl}
-use Rattle.std.specs.Prelude.{Result, IfOk, IsErrOf, String}
+use Rattle.std.proofs.Common.{◌≡◌, ◌∙◌, sym, subst, map, string_bytes, Some, None, Option, ok_or}
+use Rattle.std.specs.Prelude.{IfOk, IsErrOf}
 use Rattle.clap.specs.Words.{found_of}
 use Rattle.palm_words.specs.Settings.{settings_of}
 use Rattle.palm_words.specs.declared.settings.Settings.{Settings}
-use Rattle.palm_words.specs.declared.words.WordsFault.{WordsFault}
 use Rattle.palm_words.specs.declared.words.WordsFault.TheVariants.{Usage}
 use Rattle.palm_words.proofs.Agreement.{found_sets, refuses, utf8_words}
 use Rattle.palm_words.proofs.words.read_words.Goals as goal
