@@ -19,11 +19,11 @@ use Rattle.palm_words.specs.Settings.{options, option_names, at_most_one, are_go
 use Rattle.palm_words.specs.Command.{command_for, palm_command, set_by_matches}
 use Rattle.palm_words.specs.declared.settings.Settings.{Settings}
 use Rattle.palm_words.proofs.Arguments.{mode, rules, shape, built_is}
-use Rattle.palm_words.proofs.HeldRows.{row_for, none, none_both}
+use Rattle.palm_words.proofs.HeldRows.{row_for, no_fault, no_fault_both}
 use Rattle.palm_words.proofs.Turns.{between}
 use Rattle.palm_words.proofs.Walks.{loose_from, pair_of, pairs, fresh, accepted, joined, goes, rows_from, walks}
 use Rattle.palm_words.proofs.LoneDashes.{AreNamed, HasLone, lone_dash, Related, related}
-use Rattle.palm_words.proofs.ItemPairs.{vals, head, first_is, fresh_once, stale, known_pairs, values_are, modes_are}
+use Rattle.palm_words.proofs.ItemPairs.{texts_under, head, first_is, fresh_once, stale, known_pairs, values_are, modes_are}
 
 -- What items set.
 abbrev set_in : List Item → Option Settings
@@ -54,9 +54,9 @@ head_is (v ∷ []) h = refl
 head_is (v ∷ w ∷ rest) h = absurd (omega arith)
 
 module _ (is : List Item) (rows : List Row) (same : rows ≡ map row_for (map pair_of is)) (ok : fresh [] (map pair_of is) ≡ true) where
-  by_rows : (id : Text) → vals id (map pair_of is) ≡ values_by rows id
+  by_rows : (id : Text) → texts_under id (map pair_of is) ≡ values_by rows id
   by_rows id =
-      head_is (vals id (map pair_of is)) (fresh_once id [] (map pair_of is) ok (omega arith))
+      head_is (texts_under id (map pair_of is)) (fresh_once id [] (map pair_of is) ok (omega arith))
       ∙ ap option_to_list (sym (first_is id (map pair_of is)) ∙ ap (first_of id) (sym same))
 
   set_as_found : AreNamed option_names is → set_in is ≡ set_by (values_by rows mode) (values_by rows)
@@ -110,7 +110,7 @@ module _ (is : List Item) where
 stale_fails : (is : List Item) → AreNamed option_names is → fresh [] (map pair_of is) ≡ false → set_in is ≡ None
 stale_fails is named f = elim (stale option_names [] (map pair_of is) (known_pairs option_names is named) f) [
   | inl (id, inl among, two) ↦ bad_option is id among (inl (subst (λ (vs : List Text). 2 ≤ length vs) (sym (values_are option_names refl id is among)) two))
-  | inl (id, inr e, two) ↦ bad_mode is (inr (inl (subst (λ (vs : List Text). 2 ≤ length vs) (ap (λ t. vals t (map pair_of is)) e ∙ sym (modes_are option_names refl is named)) two)))
+  | inl (id, inr e, two) ↦ bad_mode is (inr (inl (subst (λ (vs : List Text). 2 ≤ length vs) (ap (λ t. texts_under t (map pair_of is)) e ∙ sym (modes_are option_names refl is named)) two)))
   | inr e ↦ bad_mode is (inl (modes_are option_names refl is named ∙ e))
 ]
 
@@ -166,23 +166,23 @@ same_by g rows None (Some ls) r e same =
 same_by g rows (Some is) (Some ls) r e same =
     (λ t. sym (set_as_found ls rows (same (sym e ∙ t)) (sym e ∙ t) r.0) ∙ ap set_in (sym r.1), λ f. ap set_in r.1 ∙ stale_fails ls r.0 (sym e ∙ f))
 
-goes_is : (names words : List Text) (apart : is_among mode names ≡ false) → none (fault_of (command_for names) words) ≡ goes names apart (between false 1 [] None) words
+goes_is : (names words : List Text) (apart : is_among mode names ≡ false) → no_fault (fault_of (command_for names) words) ≡ goes names apart (between false 1 [] None) words
 goes_is names words apart =
-    ap (λ (a : App). none (built_fault a nothing_held words)) (built_is names) ∙ ap none (leaf_fault (record { top = shape (rules names); subs = [] }) nothing_held words refl) ∙ none_both _ _
+    ap (λ (a : App). no_fault (built_fault a nothing_held words)) (built_is names) ∙ ap no_fault (leaf_fault (record { top = shape (rules names); subs = [] }) nothing_held words refl) ∙ no_fault_both _ _
 
 rows_are : (names words : List Text) (apart : is_among mode names ≡ false) → matches_of (command_for names) words ≡ rows_from names apart (between false 1 [] None) words
 rows_are names words apart = ap (λ (a : App). rows_after a.top.rules (names_of a) words) (built_is names)
 
-agreed_at : (words : List Text) → AllByRecursion IsUtf8 words → Same (none (fault_of palm_command words)) (matches_of palm_command words) (items_from option_names None words)
+agreed_at : (words : List Text) → AllByRecursion IsUtf8 words → Same (no_fault (fault_of palm_command words)) (matches_of palm_command words) (items_from option_names None words)
 agreed_at words u =
     let w = (walks option_names refl words u).0 1 [] None tt refl in
-    same_by (none (fault_of palm_command words)) (matches_of palm_command words) (items_from option_names None words) (loose_from option_names None words) (related option_names words None tt)
+    same_by (no_fault (fault_of palm_command words)) (matches_of palm_command words) (items_from option_names None words) (loose_from option_names None words) (related option_names words None tt)
     (goes_is option_names words refl ∙ w.0) (λ t. rows_are option_names words refl ∙ w.1 t)
 
 pub refuses : (words : List Text) → AllByRecursion IsUtf8 words → (fault_of palm_command words ≡ [] → ⊥) → settings_of words ≡ None
 refuses words u bad = (agreed_at words u).1 (some_kind (fault_of palm_command words) bad)
   where
-    some_kind : (ks : Kinds) → (ks ≡ [] → ⊥) → none ks ≡ false
+    some_kind : (ks : Kinds) → (ks ≡ [] → ⊥) → no_fault ks ≡ false
     some_kind [] h = absurd (h refl)
     some_kind (k ∷ ks) h = refl
 
@@ -195,4 +195,4 @@ utf8_words (w ∷ ws) = (IsUtf8-string_bytes w, utf8_words ws)
 pub found_sets : (f : Found) (words : List Text) → AllByRecursion IsUtf8 words → fault_of palm_command words ≡ [] → rows_of f ≡ matches_of palm_command words → set_by_matches f ≡ settings_of words
 found_sets f words u e rows =
     (λ i. set_by (option_to_list (first_value-rows f mode i)) (λ id. option_to_list (first_value-rows f id i)))
-    ∙ ap (λ (rs : List Row). set_by (values_by rs mode) (values_by rs)) rows ∙ (agreed_at words u).0 (ap none e)
+    ∙ ap (λ (rs : List Row). set_by (values_by rs mode) (values_by rs)) rows ∙ (agreed_at words u).0 (ap no_fault e)

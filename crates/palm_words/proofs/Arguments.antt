@@ -18,22 +18,22 @@ abbrev pub mode : Text
 mode = codes "mode"
 
 -- an option, as built
-abbrev pub opt : Text → Rule
-opt name = with_index 1 (filled (option_rule name))
+abbrev pub built_option : Text → Rule
+built_option name = with_index 1 (filled (option_rule name))
 
 -- the mode word, as built
-abbrev pub md : Rule
-md = with_index 1 (filled mode_rule)
+abbrev pub built_mode : Rule
+built_mode = with_index 1 (filled mode_rule)
 
 abbrev pub rules : List Text → List Rule
-rules names = map opt names ++ md ∷ []
+rules names = map built_option names ++ built_mode ∷ []
 
 abbrev pub shape : List Rule → Shape
 shape rs = record (new_shape (codes "palm")) { rules = rs; no_binary_name = true; disable_help_flag = true; disable_version_flag = true; disable_help_subcommand = true; is_built = true }
 
 filled_rules : (names : List Text) → filled_from 1 (map option_rule names ++ mode_rule ∷ []) ≡ rules names
 filled_rules [] = refl
-filled_rules (n ∷ ns) = ap (λ rs. opt n ∷ rs) (filled_rules ns)
+filled_rules (n ∷ ns) = ap (λ rs. built_option n ∷ rs) (filled_rules ns)
 
 pub built_is : (names : List Text) → built (command_for names) ≡ record { top = shape (rules names); subs = [] }
 built_is names = ap (λ rs. record { top = shape rs; subs = [] }) (filled_rules names)
@@ -44,23 +44,23 @@ same_text m n e = (bytes_eq-Decides m n).0 e
 -- ---- which argument a word finds
 
 -- an option's name finds it, by id and as a long name
-by_id_at : (b : Bool) (m n : Text) (o : Option Rule) → (b ≡ true → m ≡ n) → (b ≡ false → o ≡ Some (opt n)) → cond b (Some (opt m)) o ≡ Some (opt n)
-by_id_at true m n o here later = ap (λ t. Some (opt t)) (here refl)
+by_id_at : (b : Bool) (m n : Text) (o : Option Rule) → (b ≡ true → m ≡ n) → (b ≡ false → o ≡ Some (built_option n)) → cond b (Some (built_option m)) o ≡ Some (built_option n)
+by_id_at true m n o here later = ap (λ t. Some (built_option t)) (here refl)
 by_id_at false m n o here later = later refl
 
 later_among : (b c : Bool) → (b || c) ≡ true → b ≡ false → c ≡ true
 later_among true c h e = absurd (true≢false e)
 later_among false c h e = h
 
-pub by_id : (names : List Text) (n : Text) → is_among n names ≡ true → arg_by_id (rules names) n ≡ Some (opt n)
+pub by_id : (names : List Text) (n : Text) → is_among n names ≡ true → arg_by_id (rules names) n ≡ Some (built_option n)
 by_id [] n h = absurd (true≢false (sym h))
 by_id (m ∷ ms) n h = by_id_at (bytes_eq m n) m n (arg_by_id (rules ms) n) (same_text m n) (λ e. by_id ms n (later_among (bytes_eq m n) (is_among n ms) h e))
 
-by_long_at : (b : Bool) (m n : Text) (o : Option Rule) → (b ≡ true → m ≡ n) → (b ≡ false → o ≡ Some (opt n)) → cond (b || false) (Some (opt m)) o ≡ Some (opt n)
-by_long_at true m n o here later = ap (λ t. Some (opt t)) (here refl)
+by_long_at : (b : Bool) (m n : Text) (o : Option Rule) → (b ≡ true → m ≡ n) → (b ≡ false → o ≡ Some (built_option n)) → cond (b || false) (Some (built_option m)) o ≡ Some (built_option n)
+by_long_at true m n o here later = ap (λ t. Some (built_option t)) (here refl)
 by_long_at false m n o here later = later refl
 
-pub by_long : (names : List Text) (n : Text) → is_among n names ≡ true → arg_by_long (rules names) n ≡ Some (opt n)
+pub by_long : (names : List Text) (n : Text) → is_among n names ≡ true → arg_by_long (rules names) n ≡ Some (built_option n)
 by_long [] n h = absurd (true≢false (sym h))
 by_long (m ∷ ms) n h = by_long_at (bytes_eq m n) m n (arg_by_long (rules ms) n) (same_text m n) (λ e. by_long ms n (later_among (bytes_eq m n) (is_among n ms) h e))
 
@@ -71,19 +71,19 @@ by_no_long_at false c r o h later = later h
 
 pub by_no_long : (names : List Text) (n : Text) → is_among n names ≡ false → arg_by_long (rules names) n ≡ None
 by_no_long [] n h = refl
-by_no_long (m ∷ ms) n h = by_no_long_at (bytes_eq m n) (is_among n ms) (opt m) (arg_by_long (rules ms) n) h (by_no_long ms n)
+by_no_long (m ∷ ms) n h = by_no_long_at (bytes_eq m n) (is_among n ms) (built_option m) (arg_by_long (rules ms) n) h (by_no_long ms n)
 
 -- the mode word is found by its id, where no option is called so
-by_mode_at : (b c : Bool) (r : Rule) (o : Option Rule) → (b || c) ≡ false → (c ≡ false → o ≡ Some md) → cond b (Some r) o ≡ Some md
+by_mode_at : (b c : Bool) (r : Rule) (o : Option Rule) → (b || c) ≡ false → (c ≡ false → o ≡ Some built_mode) → cond b (Some r) o ≡ Some built_mode
 by_mode_at true c r o h later = absurd (true≢false h)
 by_mode_at false c r o h later = later h
 
-pub by_mode : (names : List Text) → is_among mode names ≡ false → arg_by_id (rules names) mode ≡ Some md
+pub by_mode : (names : List Text) → is_among mode names ≡ false → arg_by_id (rules names) mode ≡ Some built_mode
 by_mode [] h = refl
-by_mode (m ∷ ms) h = by_mode_at (bytes_eq m mode) (is_among mode ms) (opt m) (arg_by_id (rules ms) mode) h (by_mode ms)
+by_mode (m ∷ ms) h = by_mode_at (bytes_eq m mode) (is_among mode ms) (built_option m) (arg_by_id (rules ms) mode) h (by_mode ms)
 
 -- it is the first argument by place, and the last
-pub first_word : (names : List Text) → arg_by_index (rules names) 1 ≡ Some md
+pub first_word : (names : List Text) → arg_by_index (rules names) 1 ≡ Some built_mode
 first_word [] = refl
 first_word (m ∷ ms) = first_word ms
 
@@ -109,8 +109,8 @@ kept_rows false rows = refl
 
 pub no_defaults : (names : List Text) (rows : List Row) → defaults_fault rows (rules names) ≡ []
 unfolding defaults_fault
-no_defaults [] rows = rw (no_default (has_row mode rows) (given_default_fault md [])) refl
-no_defaults (m ∷ ms) rows = rw (no_default (has_row m rows) (given_default_fault (opt m) []), kept_rows (has_row m rows) rows) (no_defaults ms rows)
+no_defaults [] rows = rw (no_default (has_row mode rows) (given_default_fault built_mode [])) refl
+no_defaults (m ∷ ms) rows = rw (no_default (has_row m rows) (given_default_fault (built_option m) []), kept_rows (has_row m rows) rows) (no_defaults ms rows)
 
 pub finished_rows : (names : List Text) (rows : List Row) → fold with_default rows (rules names) ≡ rows
 finished_rows [] rows = kept_rows (has_row mode rows) rows

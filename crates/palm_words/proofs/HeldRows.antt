@@ -11,7 +11,7 @@ use Rattle.clap.specs.declared.parser.matches.ValueSource.TheVariants.{CommandLi
 use Rattle.clap.specs.declared.error.kind.ErrorKind.TheVariants as kind
 use Rattle.std.proofs.lemmas.Bool.{not-true}
 use Rattle.palm_words.specs.Items.{is_among}
-use Rattle.palm_words.proofs.Arguments.{mode, opt, md, rules, by_id, by_mode}
+use Rattle.palm_words.proofs.Arguments.{mode, built_option, built_mode, rules, by_id, by_mode}
 
 -- a name or `mode`, and its text
 abbrev pub Pair : Type 0
@@ -19,7 +19,7 @@ Pair = Text × Text
 
 -- the row of a pair
 abbrev pub row_for : Pair → Row
-row_for e = record { id = e.0; values = e.1 ∷ []; count = None; source = Some CommandLine; reading = reading_by md }
+row_for e = record { id = e.0; values = e.1 ∷ []; count = None; source = Some CommandLine; reading = reading_by built_mode }
 
 -- this id stands in the pairs
 abbrev pub has : Text → List Pair → Bool
@@ -32,13 +32,13 @@ abbrev pub held : List Pair → Option (Text × List Text) → Held
 held kv p = record { rows = map row_for kv; pending = p; skip = 0 }
 
 -- there is no fault
-abbrev pub none : Kinds → Bool
-none [] = true
-none (k ∷ ks) = false
+abbrev pub no_fault : Kinds → Bool
+no_fault [] = true
+no_fault (k ∷ ks) = false
 
-pub none_both : (a b : Kinds) → none (or_else a b) ≡ (none a && none b)
-none_both [] b = refl
-none_both (k ∷ ks) b = refl
+pub no_fault_both : (a b : Kinds) → no_fault (or_else a b) ≡ (no_fault a && no_fault b)
+no_fault_both [] b = refl
+no_fault_both (k ∷ ks) b = refl
 
 pub has_row_is : (id : Text) (kv : List Pair) → has_row id (map row_for kv) ≡ has id kv
 has_row_is id [] = refl
@@ -60,29 +60,29 @@ at_row_none id change missing (r ∷ rs) h = at_row_past id change missing rs r 
 
 -- a use of an argument that has no row yet
 used_new : (id v : Text) (rows : List Row) → has_row id rows ≡ false
-    → with_values id (reading_by md) CommandLine (v ∷ []) (without id rows) ≡ rows ++ row_for (id, v) ∷ []
+    → with_values id (reading_by built_mode) CommandLine (v ∷ []) (without id rows) ≡ rows ++ row_for (id, v) ∷ []
 used_new id v rows h =
     let rest : without id rows ≡ rows = at_row_none id (λ _. []) [] rows h ∙ append-nil rows in
-    ap (with_values id (reading_by md) CommandLine (v ∷ [])) rest ∙ at_row_none id (more_values CommandLine (v ∷ [])) (row_for (id, v) ∷ []) rows h
+    ap (with_values id (reading_by built_mode) CommandLine (v ∷ [])) rest ∙ at_row_none id (more_values CommandLine (v ∷ [])) (row_for (id, v) ∷ []) rows h
 
-conflict : (b : Bool) → none (or_else (if b && true then kind.ArgumentConflict ∷ [] else []) []) ≡ not b
+conflict : (b : Bool) → no_fault (or_else (if b && true then kind.ArgumentConflict ∷ [] else []) []) ≡ not b
 conflict true = refl
 conflict false = refl
 
 -- a use of an option, and of the mode word, fails only where it has a row
-pub option_fault_is : (n v : Text) (kv : List Pair) → none (use_fault false (opt n) (v ∷ []) (map row_for kv)) ≡ not (has n kv)
+pub option_fault_is : (n v : Text) (kv : List Pair) → no_fault (use_fault false (built_option n) (v ∷ []) (map row_for kv)) ≡ not (has n kv)
 option_fault_is n v kv = rw (has_row_is n kv) (conflict (has n kv))
 
-pub mode_fault_is : (v : Text) (kv : List Pair) → none (use_fault false md (v ∷ []) (map row_for kv)) ≡ not (has mode kv)
+pub mode_fault_is : (v : Text) (kv : List Pair) → no_fault (use_fault false built_mode (v ∷ []) (map row_for kv)) ≡ not (has mode kv)
 mode_fault_is v kv = rw (has_row_is mode kv) (conflict (has mode kv))
 
 rows_more : (kv : List Pair) (e : Pair) → map row_for kv ++ row_for e ∷ [] ≡ map row_for (kv ++ e ∷ [])
 rows_more kv e = sym (map-append row_for kv (e ∷ []))
 
-pub option_used : (n v : Text) (kv : List Pair) → has n kv ≡ false → used (opt n) (v ∷ []) (map row_for kv) ≡ map row_for (kv ++ (n, v) ∷ [])
+pub option_used : (n v : Text) (kv : List Pair) → has n kv ≡ false → used (built_option n) (v ∷ []) (map row_for kv) ≡ map row_for (kv ++ (n, v) ∷ [])
 option_used n v kv h = used_new n v (map row_for kv) (has_row_is n kv ∙ h) ∙ rows_more kv (n, v)
 
-mode_used : (v : Text) (kv : List Pair) → has mode kv ≡ false → used md (v ∷ []) (map row_for kv) ≡ map row_for (kv ++ (mode, v) ∷ [])
+mode_used : (v : Text) (kv : List Pair) → has mode kv ≡ false → used built_mode (v ∷ []) (map row_for kv) ≡ map row_for (kv ++ (mode, v) ∷ [])
 mode_used v kv h = used_new mode v (map row_for kv) (has_row_is mode kv ∙ h) ∙ rows_more kv (mode, v)
 
 -- ---- what is pending is settled
@@ -103,7 +103,7 @@ module _ (names : List Text) (apart : is_among mode names ≡ false) where
   Known None = Unit {0}
   Known (Some e) = (is_among e.0 names ≡ true) ⊎ (e.0 ≡ mode)
 
-  pub settles : (kv : List Pair) (p : Option Pair) → Known p → none (settle_fault (rules names) false (held kv (pending_as p))) ≡ fits kv p
+  pub settles : (kv : List Pair) (p : Option Pair) → Known p → no_fault (settle_fault (rules names) false (held kv (pending_as p))) ≡ fits kv p
   settles kv None k = refl
   settles kv (Some e) (inl k) = rw (by_id names e.0 k) (option_fault_is e.0 e.1 kv)
   settles kv (Some e) (inr k) = rw (k, by_mode names apart) (mode_fault_is e.1 kv)

@@ -10,8 +10,8 @@ use Rattle.clap.specs.Walk.{Held, Row, Text, Walk, Waiting, idle, option, positi
 use Rattle.clap.specs.Kinds.{Kinds, or_else}
 use Rattle.clap.specs.Faults.{flags_fault, step_fault, turn_fault, use_fault}
 use Rattle.palm_words.specs.Items.{is_among, two_dashes}
-use Rattle.palm_words.proofs.Arguments.{mode, opt, md, rules, shape, by_id, by_long, by_no_long, by_short, first_word, second_word}
-use Rattle.palm_words.proofs.HeldRows.{Pair, row_for, has, pending_as, held, none, none_both, after, fits, Known, settles, settled_is, option_fault_is, option_used}
+use Rattle.palm_words.proofs.Arguments.{mode, built_option, built_mode, rules, shape, by_id, by_long, by_no_long, by_short, first_word, second_word}
+use Rattle.palm_words.proofs.HeldRows.{Pair, row_for, has, pending_as, held, no_fault, no_fault_both, after, fits, Known, settles, settled_is, option_fault_is, option_used}
 
 -- ---- where the walk stands
 
@@ -36,7 +36,7 @@ pub and_if : (a b c : Bool) → (a ≡ true → b ≡ c) → (a && b) ≡ (a && 
 and_if true b c h = h refl
 and_if false b c h = refl
 
-or_nothing : (a : Kinds) → none (or_else a []) ≡ none a
+or_nothing : (a : Kinds) → no_fault (or_else a []) ≡ no_fault a
 or_nothing [] = refl
 or_nothing (k ∷ ks) = refl
 
@@ -51,7 +51,7 @@ same_text n = (bytes_eq-Decides n n).1 refl
 module _ (names : List Text) (apart : is_among mode names ≡ false) where
   -- the word passes
   abbrev pub passes : Walk → Text → Bool
-  passes w word = none (turn_fault (shape (rules names)) [] w word)
+  passes w word = no_fault (turn_fault (shape (rules names)) [] w word)
 
   -- where the walk stands after it
   abbrev pub next_of : Walk → Text → Walk
@@ -70,16 +70,16 @@ module _ (names : List Text) (apart : is_among mode names ≡ false) where
     pub given_passes : (p : Option Pair) (n v : Text) → Known names apart p → bytes_eq word two_dashes ≡ false → long_of word ≡ Some (n, Some v) → is_among n names ≡ true
         → passes (between false q kv p) word ≡ (fits kv p && not (has n (after kv p)))
     given_passes p n v k e l among =
-        rw (e, l, by_long names n among) (or_nothing _ ∙ none_both _ _ ∙ ap (λ b. b && none (use_fault false (opt n) (v ∷ []) (settled (rules names) (held kv (pending_as p))).rows)) (settles names apart kv p k)
-        ∙ and_if (fits kv p) _ _ (λ f. ap (λ (h : Held). none (use_fault false (opt n) (v ∷ []) h.rows)) (settled_is names apart kv p k f) ∙ option_fault_is n v (after kv p)))
+        rw (e, l, by_long names n among) (or_nothing _ ∙ no_fault_both _ _ ∙ ap (λ b. b && no_fault (use_fault false (built_option n) (v ∷ []) (settled (rules names) (held kv (pending_as p))).rows)) (settles names apart kv p k)
+        ∙ and_if (fits kv p) _ _ (λ f. ap (λ (h : Held). no_fault (use_fault false (built_option n) (v ∷ []) h.rows)) (settled_is names apart kv p k f) ∙ option_fault_is n v (after kv p)))
 
     pub given_next : (p : Option Pair) (n v : Text) → Known names apart p → bytes_eq word two_dashes ≡ false → long_of word ≡ Some (n, Some v) → is_among n names ≡ true
         → (fits kv p && not (has n (after kv p))) ≡ true → next_of (between false q kv p) word ≡ between false q (after kv p ++ (n, v) ∷ []) None
     unfolding walked
     given_next p n v k e l among fit =
         let parts = and_parts (fits kv p) (not (has n (after kv p))) fit in
-        let rows : used (opt n) (v ∷ []) (settled (rules names) (held kv (pending_as p))).rows ≡ map row_for (after kv p ++ (n, v) ∷ []) =
-        ap (λ (h : Held). used (opt n) (v ∷ []) h.rows) (settled_is names apart kv p k parts.0) ∙ option_used n v (after kv p) (not-true _ parts.1) in
+        let rows : used (built_option n) (v ∷ []) (settled (rules names) (held kv (pending_as p))).rows ≡ map row_for (after kv p ++ (n, v) ∷ []) =
+        ap (λ (h : Held). used (built_option n) (v ∷ []) h.rows) (settled_is names apart kv p k parts.0) ∙ option_used n v (after kv p) (not-true _ parts.1) in
         rw (e, l, by_long names n among) (ap (λ (rs : List Row). stands (record { rows = rs; pending = None; skip = 0 }) idle q false) rows)
 
     -- the name of an option, whose value is the next word
@@ -106,10 +106,10 @@ module _ (names : List Text) (apart : is_among mode names ≡ false) where
 
     -- a word that is no option
     value_fault_is : (p : Option Pair) (b : Bool) → Known names apart p → q ≡ place b → has mode (after kv p) ≡ b
-        → none (step_fault (shape (rules names)) q (held kv (pending_as p)) value) ≡ (fits kv p && not (has mode (after kv p)))
+        → no_fault (step_fault (shape (rules names)) q (held kv (pending_as p)) value) ≡ (fits kv p && not (has mode (after kv p)))
     value_fault_is p true k at is = rw (at, is, second_word names) (sym (and_right (fits kv p) false refl))
     value_fault_is p false k at is =
-        let several : (is_pending md (pending_as p) && takes_several md) ≡ false = and_right _ _ refl in
+        let several : (is_pending built_mode (pending_as p) && takes_several built_mode) ≡ false = and_right _ _ refl in
         rw (at, is, first_word names, several) (settles names apart kv p k ∙ sym (and-true (fits kv p)))
 
     pub mode_passes : (t : Bool) (p : Option Pair) → Known names apart p → q ≡ place (has mode (after kv p))
@@ -124,7 +124,7 @@ module _ (names : List Text) (apart : is_among mode names ≡ false) where
     value_next t p k at fit =
         let parts = and_parts (fits kv p) (not (has mode (after kv p))) fit in
         let one : q ≡ 1 = at ∙ ap place (not-true _ parts.1) in
-        let several : (is_pending md (pending_as p) && takes_several md) ≡ false = and_right _ _ refl in
+        let several : (is_pending built_mode (pending_as p) && takes_several built_mode) ≡ false = and_right _ _ refl in
         rw (one, first_word names, several) (ap (λ (h : Held). stands (record { rows = h.rows; pending = Some (mode, word ∷ []); skip = 0 }) idle 2 (t || false)) (settled_is names apart kv p k parts.0) ∙ elim t as (λ b. stands (held (after kv p) (Some (mode, word ∷ []))) idle 2 (b || false) ≡ between b 2 (after kv p) (Some (mode, word))) [ true ↦ refl | false ↦ refl ])
 
     pub mode_next : (t : Bool) (p : Option Pair) → Known names apart p → q ≡ place (has mode (after kv p))

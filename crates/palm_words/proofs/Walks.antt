@@ -17,7 +17,7 @@ use Rattle.clap.specs.Takes.{is_given}
 use Rattle.clap.specs.Faults.{check_fault, defaults_fault, settle_fault, walk_fault}
 use Rattle.palm_words.specs.Items.{Item, option, mode_word, is_among, names_option, then_items, two_dashes, name_in, value_in, with_value}
 use Rattle.palm_words.proofs.Arguments.{mode, rules, shape, by_id, no_defaults, finished_rows, lacks_mode}
-use Rattle.palm_words.proofs.HeldRows.{Pair, row_for, has, has_more, pending_as, held, none, none_both, after, fits, Known, settles, settled_is}
+use Rattle.palm_words.proofs.HeldRows.{Pair, row_for, has, has_more, pending_as, held, no_fault, no_fault_both, after, fits, Known, settles, settled_is}
 use Rattle.palm_words.proofs.WordForms.{Look, ends, long, short, plain, look, refused}
 use Rattle.palm_words.proofs.Turns.{place, between, waits, and_if, passes, next_of, ends_passes, ends_next, given_passes, given_next, named_passes, named_next, unknown_fails, short_fails, mode_passes, mode_next, value_passes, value_taken, ends_waiting, ends_waiting_passes, option_fails, doomed}
 
@@ -73,7 +73,7 @@ module _ (names : List Text) (apart : is_among mode names ≡ false) where
 
   -- the walk and its end pass, from where it stands
   abbrev pub goes : Walk → List Text → Bool
-  goes w words = none (walk_fault (shape (rules names)) [] w words) && none (end_fault (fold (walked (rules names) []) w words).held)
+  goes w words = no_fault (walk_fault (shape (rules names)) [] w words) && no_fault (end_fault (fold (walked (rules names) []) w words).held)
 
   abbrev pub rows_from : Walk → List Text → List Row
   rows_from w words = finished (rules names) (fold (walked (rules names) []) w words).held
@@ -84,7 +84,7 @@ module _ (names : List Text) (apart : is_among mode names ≡ false) where
 
   goes_more : (w : Walk) (x : Text) (xs : List Text) → goes w (x ∷ xs) ≡ (passes names apart w x && goes (next_of names apart w x) xs)
   unfolding walk_fault
-  goes_more w x xs = ap (λ b. b && none (end_fault (fold (walked (rules names) []) (next_of names apart w x) xs).held)) (none_both _ _) ∙ and_assoc (passes names apart w x) _ _
+  goes_more w x xs = ap (λ b. b && no_fault (end_fault (fold (walked (rules names) []) (next_of names apart w x) xs).held)) (no_fault_both _ _) ∙ and_assoc (passes names apart w x) _ _
 
   -- a word that passes where a holds
   steps : (w next : Walk) (x : Text) (xs : List Text) (a b : Bool) (kv : List Pair) (o : Option (List Pair)) → passes names apart w x ≡ a → (a ≡ true → next_of names apart w x ≡ next)
@@ -112,7 +112,7 @@ module _ (names : List Text) (apart : is_among mode names ≡ false) where
   given_row [] = refl
   given_row (e ∷ es) = given_at (bytes_eq e.0 mode) (row_for e) (find (λ (r : Row). bytes_eq r.id mode) (map row_for es)) (has mode es) refl (given_row es)
 
-  end_passes : (rows : List Row) (b : Bool) → is_given mode rows ≡ b → none (or_else (defaults_fault rows (rules names)) (check_fault (shape (rules names)) (fold with_default rows (rules names)) false)) ≡ b
+  end_passes : (rows : List Row) (b : Bool) → is_given mode rows ≡ b → no_fault (or_else (defaults_fault rows (rules names)) (check_fault (shape (rules names)) (fold with_default rows (rules names)) false)) ≡ b
   end_passes rows true e = rw (no_defaults names rows, finished_rows names rows, lacks_mode names rows, e) refl
   end_passes rows false e = rw (no_defaults names rows, finished_rows names rows, lacks_mode names rows, e) refl
 
@@ -120,9 +120,9 @@ module _ (names : List Text) (apart : is_among mode names ≡ false) where
   unfolding walk_fault
   at_end t q kv p k =
       let h0 : Held = held kv (pending_as p) in
-      let tail = λ (h : Held). none (or_else (defaults_fault h.rows (rules names)) (check_fault (shape (rules names)) (fold with_default h.rows (rules names)) false)) in
-      let now : none (end_fault h0) ≡ (none (settle_fault (rules names) false h0) && tail (settled (rules names) h0)) = none_both _ _ in
-      let settle : (none (settle_fault (rules names) false h0) && tail (settled (rules names) h0)) ≡ (fits kv p && tail (settled (rules names) h0)) = ap (λ b. b && tail (settled (rules names) h0)) (settles names apart kv p k) in
+      let tail = λ (h : Held). no_fault (or_else (defaults_fault h.rows (rules names)) (check_fault (shape (rules names)) (fold with_default h.rows (rules names)) false)) in
+      let now : no_fault (end_fault h0) ≡ (no_fault (settle_fault (rules names) false h0) && tail (settled (rules names) h0)) = no_fault_both _ _ in
+      let settle : (no_fault (settle_fault (rules names) false h0) && tail (settled (rules names) h0)) ≡ (fits kv p && tail (settled (rules names) h0)) = ap (λ b. b && tail (settled (rules names) h0)) (settles names apart kv p k) in
       let last : fits kv p ≡ true → tail (settled (rules names) h0) ≡ has mode (after kv p) =
       λ f. ap tail (settled_is names apart kv p k f) ∙ end_passes (map row_for (after kv p)) (has mode (after kv p)) (given_row (after kv p)) in (
         now ∙ settle ∙ and_if (fits kv p) _ _ last,

@@ -11,7 +11,7 @@ use Rattle.palm_words.specs.declared.settings.Settings.{Settings}
 
 -- ---- the command
 
--- An option of this name, with a VALUE.
+-- An option of this name, with a VALUE. So that of "batch" is `--batch VALUE`.
 abbrev pub option_rule : Text → Rule
 option_rule name = record (new_rule name) { long = Some name; action = Some Set }
 
@@ -27,15 +27,16 @@ command_with rules = on_top (λ s. record s { rules = rules; no_binary_name = tr
 abbrev pub command_for : List Text → App
 command_for names = command_with (map option_rule names ++ mode_rule ∷ [])
 
+-- The command for our options.
 abbrev pub palm_command : App
 palm_command = command_for option_names
 
 -- ---- what was found
 
 -- The VALUE that was found under this name, or none.
-abbrev pub values_in : Found → Text → List Text
-values_in found name = option_to_list (first_value found name)
+abbrev pub found_values : Found → Text → List Text
+found_values found name = option_to_list (first_value found name)
 
 -- What was found sets, as VALUEs and mode words do.
 abbrev pub set_by_matches : Found → Option Settings
-set_by_matches found = set_by (values_in found (codes "mode")) (values_in found)
+set_by_matches found = set_by (found_values found (codes "mode")) (found_values found)

@@ -3,6 +3,7 @@ use Rattle.std.specs.Prelude.{ℕ, ◌==◌, ◌&&◌, Bool, false, if◌then◌
 use Rattle.std.specs.List.{list_any, before_first, after_first}
 use Rattle.std.specs.Str.{bytes_eq}
 
+-- A text, as the list of its bytes.
 abbrev pub Text : Type 0
 Text = List ℕ
 
@@ -11,7 +12,7 @@ pub data Item : Type 0 where
   option : Text → Text → Item
   mode_word : Text → Item
 
--- This text is one of those.
+-- This text is one of those. So "a" is among "b" and "a".
 abbrev pub is_among : Text → List Text → Bool
 is_among text texts = list_any (λ t. bytes_eq t text) texts
 
@@ -24,6 +25,7 @@ abbrev pub begins_with_dash : Text → Bool
 begins_with_dash [] = false
 begins_with_dash (c ∷ cs) = c == 45
 
+-- The byte `=`.
 abbrev pub is_equals_sign : ℕ → Bool
 is_equals_sign c = c == 61
 
@@ -39,7 +41,7 @@ value_in word = if list_any is_equals_sign (drop 2 word) then Some (after_first 
 abbrev pub names_option : List Text → Text → Bool
 names_option names word = bytes_eq (take 2 word) two_dashes && is_among (name_in word) names
 
--- This item, and then those of the rest, where the rest isn't refused.
+-- This item, and then those of the rest; none where the rest is refused.
 abbrev pub then_items : Item → Option (List Item) → Option (List Item)
 then_items item rest = option_map (λ items. item ∷ items) rest
 
@@ -62,13 +64,13 @@ items_from names None (word ∷ rest) =
     if names_option names word then with_value (name_in word) (value_in word) (λ waiting. items_from names waiting rest) else
     if begins_with_dash word then None else then_items (mode_word word) (items_from names None rest)
 
--- The VALUEs of the options of this name, in their order.
+-- The VALUEs of the options of this name, in their order. So after "--batch=4", "--batch=5" those of batch are "4" and "5".
 abbrev pub values_of : List Item → Text → List Text
 values_of [] name = []
 values_of (option n value ∷ rest) name = if bytes_eq n name then value ∷ values_of rest name else values_of rest name
 values_of (mode_word w ∷ rest) name = values_of rest name
 
--- The mode words, in their order.
+-- The mode words, in their order. So after "replay", "--batch=4" there is "replay" alone.
 abbrev pub mode_words : List Item → List Text
 mode_words [] = []
 mode_words (option n value ∷ rest) = mode_words rest

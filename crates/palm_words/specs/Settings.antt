@@ -24,19 +24,19 @@ modes = (codes "replay", Replay) ∷ []
 abbrev pub dumps : List (Text × DumpWhen)
 dumps = (codes "none", Never) ∷ (codes "end", AtEnd) ∷ (codes "all", Always) ∷ []
 
--- So "replay" names Replay, and "Replay" names none.
+-- The mode that a word names. So "replay" names Replay, and "Replay" names none.
 abbrev pub mode_named : Text → Option Mode
 mode_named word = lookup (bytes_eq word) modes
 
--- So "end" names AtEnd.
+-- What a VALUE of `dump` says. So "end" says AtEnd.
 abbrev pub dump_named : Text → Option DumpWhen
 dump_named value = lookup (bytes_eq value) dumps
 
--- So "end" is one, and "End" isn't.
+-- A VALUE that `dump` may have. So "end" is one, and "End" isn't.
 abbrev pub is_dump : Text → Bool
 is_dump value = is_some (dump_named value)
 
--- The options, by their names, and which VALUEs they may have.
+-- The options, by their names, and which VALUEs they may have. So batch may have "65536", and not "0".
 abbrev pub options : List (Text × (Text → Bool))
 options =
     (codes "workers", is_from_to 1 MOST_WORKERS)
@@ -47,6 +47,7 @@ options =
     ∷ (codes "calls", is_from_to 0 MOST_CALLS)
     ∷ []
 
+-- The names of the options.
 abbrev pub option_names : List Text
 option_names = map (λ o. o.0) options
 
@@ -62,7 +63,7 @@ at_most_one is_good (value ∷ more ∷ rest) = false
 abbrev pub are_good : (Text → List Text) → Bool
 are_good values = list_all (λ o. at_most_one o.1 (values o.0)) options
 
--- The mode, where there is one mode word and it names one.
+-- The mode, where there is one mode word and it names one. So "replay", "replay" set none.
 abbrev pub one_mode : List Text → Option Mode
 one_mode [] = None
 one_mode (word ∷ []) = mode_named word
@@ -73,7 +74,7 @@ abbrev pub number_or : ℕ → List Text → ℕ
 number_or default [] = default
 number_or default (value ∷ rest) = value_of value
 
--- What the first VALUE of `dump` says, or the default, Never.
+-- What the first VALUE of `dump` says, or the default, Never. So that of "all" is Always.
 abbrev pub dump_or_never : List Text → DumpWhen
 dump_or_never [] = Never
 dump_or_never (value ∷ rest) = unwrap_or (dump_named value) Never
@@ -99,7 +100,7 @@ set_by words values = option_and_then (λ mode. if are_good values then Some (se
 abbrev pub settings_of : List Text → Option Settings
 settings_of words = option_and_then (λ items. set_by (mode_words items) (values_of items)) (items_from option_names None words)
 
--- Each number is between its bounds.
+-- Each number is between its bounds. A seed may be any that there is.
 pub record AreWithin (s : Settings) : Type 0 where
   pub some_workers : 1 ≤ s.workers
   pub few_workers : s.workers ≤ MOST_WORKERS

@@ -2,7 +2,7 @@
 ghost use Rattle.std.specs.Prelude.{◌≡◌, ◌≤◌, IfSome, is_some, codes};
 ghost use Rattle.clap.specs.Words.{found_of};
 ghost use Rattle.palm_base.specs.Numbers.{is_from_to};
-ghost use Rattle.palm_words.specs.Command.{values_in};
+ghost use Rattle.palm_words.specs.Command.{found_values};
 ghost use Rattle.palm_words.specs.Settings.{mode_named, dump_named, is_dump, at_most_one, number_or, dump_or_never};
 
 use crate::settings::{DumpWhen, Mode};
@@ -33,8 +33,8 @@ pub fn dump_named(value: &str) -> Option<DumpWhen>
 
 /// When the tree is dumped, by the VALUE that was found or by the default. `None` where the VALUE is none of the three.
 pub fn dump_in(matches: &ArgMatches) -> Option<DumpWhen>
-    ensures good { is_some result ≡ at_most_one is_dump (values_in (found_of matches.now) (codes "dump")) }
-    ensures says { IfSome result (λ when. when ≡ dump_or_never (values_in (found_of matches.now) (codes "dump"))) }
+    ensures good { is_some result ≡ at_most_one is_dump (found_values (found_of matches.now) (codes "dump")) }
+    ensures says { IfSome result (λ when. when ≡ dump_or_never (found_values (found_of matches.now) (codes "dump"))) }
 {
     match matches.get_str("dump") {
         None => Some(DumpWhen::Never),
@@ -53,8 +53,8 @@ pub fn number_in(
 ) -> Option<u64>
     requires least { least ≤ default }
     requires most { default ≤ most }
-    ensures good { is_some result ≡ at_most_one (is_from_to least most) (values_in (found_of matches.now) name.now) }
-    ensures says { IfSome result (λ n. n ≡ number_or default (values_in (found_of matches.now) name.now)) }
+    ensures good { is_some result ≡ at_most_one (is_from_to least most) (found_values (found_of matches.now) name.now) }
+    ensures says { IfSome result (λ n. n ≡ number_or default (found_values (found_of matches.now) name.now)) }
     ensures least { IfSome result (λ n. least ≤ n) }
     ensures most { IfSome result (λ n. n ≤ most) }
 {
@@ -74,8 +74,8 @@ pub fn small_number_in(
 ) -> Option<u32>
     requires least { least ≤ default }
     requires most { default ≤ most }
-    ensures good { is_some result ≡ at_most_one (is_from_to least most) (values_in (found_of matches.now) name.now) }
-    ensures says { IfSome result (λ n. n ≡ number_or default (values_in (found_of matches.now) name.now)) }
+    ensures good { is_some result ≡ at_most_one (is_from_to least most) (found_values (found_of matches.now) name.now) }
+    ensures says { IfSome result (λ n. n ≡ number_or default (found_values (found_of matches.now) name.now)) }
     ensures least { IfSome result (λ n. least ≤ n) }
     ensures most { IfSome result (λ n. n ≤ most) }
 {
