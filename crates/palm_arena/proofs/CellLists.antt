@@ -65,10 +65,6 @@ one_left s (One t) (Some u) e = absurd (cc)
 one_left s Several None e = absurd (cc)
 one_left s Several (Some u) e = absurd (cc)
 
-none_seen : (o : Option Node) → Nothing ≡ found o → o ≡ None
-none_seen None e = refl
-none_seen (Some s) e = absurd (cc)
-
 -- What a list has at its first cell's own id, and at another.
 pub at_own : (id : NodeId) (s : Node) (cs : List Cell) → found_at id ((id, s) ∷ cs) ≡ both (One s) (found_at id cs)
 at_own id s cs = ap (λ b. both (found_if b s) (found_at id cs)) (eq-eqb id.place id.place refl)
@@ -84,12 +80,7 @@ at_other i id s cs n = by (same_place id i) refl
 pub owned_front : (m : NodeId → Option Node) (id : NodeId) (s : Node) (cs : List Cell) → Owns m ((id, s) ∷ cs) → (m id ≡ Some s) × (found_at id cs ≡ Nothing)
 owned_front m id s cs o = one_left s (found_at id cs) (m id) (sym (at_own id s cs) ∙ o id)
 
--- A node is written, a new one is put, one is dropped.
-pub owned_written : (m m' : NodeId → Option Node) (id : NodeId) (s t : Node) (cs : List Cell) → Owns m ((id, s) ∷ cs) → ChangesAt id (Some t) m m' → Owns m' ((id, t) ∷ cs)
-owned_written m m' id s t cs o c i = dite (ℕ_discrete id.place i.place)
-    (λ e. let same = same_id id i e in subst (λ k. found_at k ((id, t) ∷ cs) ≡ found (m' k)) same (at_own id t cs ∙ ap (both (One t)) (owned_front m id s cs o).1 ∙ ap found (sym c.here)))
-    (λ other. let apart : id ≢ i = λ e. other (ap (λ (k : NodeId). k.place) e) in at_other i id t cs apart ∙ sym (at_other i id s cs apart) ∙ o i ∙ ap found (sym (c.elsewhere i apart)))
-
+-- A new node is put, one is dropped.
 pub owned_taken : (m m' : NodeId → Option Node) (id : NodeId) (t : Node) (cs : List Cell) → Owns m cs → m id ≡ None → ChangesAt id (Some t) m m' → Owns m' ((id, t) ∷ cs)
 owned_taken m m' id t cs o new c i = dite (ℕ_discrete id.place i.place)
     (λ e. let same = same_id id i e in subst (λ k. found_at k ((id, t) ∷ cs) ≡ found (m' k)) same (at_own id t cs ∙ ap (both (One t)) (o id ∙ ap found new) ∙ ap found (sym c.here)))

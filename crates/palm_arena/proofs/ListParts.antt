@@ -22,9 +22,6 @@ perm_cross a b c d =
     let turn = IsPermutation-append_right a ((b ++ c) ++ d) ((c ++ b) ++ d) (IsPermutation-append_left d (b ++ c) (c ++ b) (IsPermutation-append_comm b c)) in
     subst (λ z. IsPermutation z ((a ++ c) ++ (b ++ d))) (sym left) (subst (λ z. IsPermutation (a ++ ((b ++ c) ++ d)) z) right turn)
 
-perm_both : {X : Type 0} (a b c d : List X) → IsPermutation a b → IsPermutation c d → IsPermutation (a ++ c) (b ++ d)
-perm_both a b c d p q = IsPermutation-trans (a ++ c) (b ++ c) (b ++ d) (IsPermutation-append_left c a b p) (IsPermutation-append_right b c d q)
-
 pub perm_parted : {X Y : Type 0} (f g : X → List Y) (xs : List X) → IsPermutation (flat_map f xs ++ flat_map g xs) (flat_map (λ x. f x ++ g x) xs)
 perm_parted f g [] = IsPermutation-refl []
 perm_parted f g (x ∷ xs) =

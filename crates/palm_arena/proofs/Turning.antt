@@ -8,7 +8,7 @@ use Rattle.palm_arena.specs.declared.place.Place.TheVariants.{Empty, Lent, Holds
 use Rattle.palm_arena.specs.ArenaState.{node_in, node_at, with_place, IsLent, IsVacant}
 use Rattle.palm_arena.specs.Reads.{map_of}
 use Rattle.palm_arena.specs.Cells.{Cell, Owns, SameCells, ChangesAt, Turns}
-use Rattle.palm_arena.proofs.CellLists.{owned_taken, owned_dropped, owned_written, owned_same, same_append}
+use Rattle.palm_arena.proofs.CellLists.{owned_taken, owned_dropped, owned_same, same_append}
 use Rattle.palm_arena.proofs.Standing.{put_stands, others_stay}
 
 -- A place is put: the map changes at its id alone.
@@ -30,10 +30,6 @@ drop_turns places id node others owned = owned_dropped (map_of places) (map_of (
 pub put_turns : (places : List Place) (id : NodeId) (node : Node) → node_at places id ≡ None → Turns (map_of places) (map_of (with_place places id (Holds node))) [] ((id, node) ∷ [])
 put_turns places id node none others owned = owned_taken (map_of places) (map_of (with_place places id (Holds node))) id node others owned none (put_changes places id (Holds node))
 
--- A node is written in place of another.
-pub write_turns : (places : List Place) (id : NodeId) (old new : Node) → Turns (map_of places) (map_of (with_place places id (Holds new))) ((id, old) ∷ []) ((id, new) ∷ [])
-write_turns places id old new others owned = owned_written (map_of places) (map_of (with_place places id (Holds new))) id old new others owned (put_changes places id (Holds new))
-
 pub lent_none : (places : List Place) (id : NodeId) → IsLent places id → node_at places id ≡ None
 lent_none places id lent = ap node_in lent
 
@@ -41,9 +37,6 @@ pub vacant_none : (places : List Place) (id : NodeId) → IsVacant places id →
 vacant_none places id vacant = ap node_in vacant
 
 -- ---- turns in a row and side by side
-
-pub turns_stay : (nodes : NodeId → Option Node) (cells : List Cell) → Turns nodes nodes cells cells
-turns_stay nodes cells others owned = owned
 
 pub turns_then : (a b c : NodeId → Option Node) (xs ys zs : List Cell) → Turns a b xs ys → Turns b c ys zs → Turns a c xs zs
 turns_then a b c xs ys zs first then others owned = then others (first others owned)

@@ -107,9 +107,6 @@ LeavesStand nodes later shape groups changes = (p : Pass) (parts : List Part) �
 abbrev pub LevelsStand : (nodes later : NodeId → Option Node) → Shape → Changes → Changes → Type 0
 LevelsStand nodes later shape leaves changes = (p : Pass) → shape.levels ≡ suc p.tree.0 → StandsAt p 1 nodes leaves → StandsAt p (level_below shape.levels) later changes
 
-abbrev pub RootStands : (nodes later : NodeId → Option Node) → Shape → Changes → Shape → Type 0
-RootStands nodes later shape changes after = (p : Pass) → StandsBelow p nodes shape changes → IsRepaired p later changes after
-
 pub pass_routed : (tree : Tree) (batch : List Entry) (nodes : NodeId → Option Node) (shape : Shape) (groups : List Group) → (over : PassOver tree batch nodes shape) → groups ≡ groups_at nodes shape batch
     → IsRouted (pass_in tree batch nodes shape over) nodes shape groups (parts_at nodes shape batch)
 pass_routed tree batch nodes shape groups over are = subst (λ gs. IsRouted (pass_in tree batch nodes shape over) nodes shape gs (parts_at nodes shape batch)) (sym are) over.routed

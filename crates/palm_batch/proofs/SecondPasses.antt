@@ -54,15 +54,7 @@ together parts orphans levels before first last one two =
     within : (x y z : ℕ) → z ≡ x + y → first ≤ before + x → last ≤ first + y → last ≤ before + z
     within x y z sum one two = omega (arith, sum, one, two)
 
--- The first pass costs no more than the batch may.
-pub first_costs : (tree : Tree) (batch : List Entry) (nodes : NodeId → Option Node) (shape : Shape) (before first : ℕ) → IsTree tree nodes shape
-    → first ≤ before + 2 * length (parts_at nodes shape batch) * (shape.levels + 2) → first ≤ before + batch_cost tree nodes shape batch
-first_costs tree batch nodes shape before first is cost =
-    let levels = levels_over tree batch in
-    together (length (parts_at nodes shape batch)) (length (orphans_of tree (edits_in batch))) levels before first first
-    (pass_costs tree nodes shape (length (parts_at nodes shape batch)) levels before first is (le-max_left (levels_of tree) (levels_of (batch_tree tree (calls_of batch)))) cost) (omega arith)
-
--- Nor do both passes.
+-- Both passes cost no more than the batch may.
 pub both_cost : (tree : Tree) (batch sets : List Entry) (orphans : List Row) (nodes between : NodeId → Option Node) (shape after : Shape) (before first last : ℕ) → IsTree tree nodes shape
     → orphans ≡ orphans_of tree (edits_in batch) → sets ≡ map set_entry orphans → IsTree (passed_tree tree (edits_in batch)) between after
     → first ≤ before + 2 * length (parts_at nodes shape batch) * (shape.levels + 2) → last ≤ first + 2 * length (parts_at between after sets) * (after.levels + 2)

@@ -29,12 +29,6 @@ some_pieces t some = omega arith
 pub first_cut : (rows : List Row) → 0 < length rows → IsCutTo MOST_LEAF_ROWS (length rows) 1 (drop (first_size rows) rows)
 first_cut rows some = cut_next MOST_LEAF_ROWS (length rows) 0 rows (some_pieces (length rows) some) (cut_first LEAST_LEAF_ROWS rows (omega arith))
 
--- The first piece is within the rows.
-pub first_fits : (rows : List Row) → 0 < length rows → (first_size rows ≤ length rows) × (length (take (first_size rows) rows) ≤ MOST_LEAF_ROWS)
-first_fits rows some =
-    let fits = next_fits MOST_LEAF_ROWS (length rows) 0 rows (some_pieces (length rows) some) (cut_first LEAST_LEAF_ROWS rows (omega arith)) in
-    (fits.0, fits.1.1)
-
 pub first_key : (part : List Row) (row : Row) (k : ℕ) → 0 < length part → k ≡ key (get_or part 0 row).prefix → k ≡ first_low row_key part
 first_key [] row k some e = absurd (omega arith)
 first_key (first ∷ part) row k some e = e

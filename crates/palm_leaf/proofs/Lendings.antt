@@ -1,7 +1,7 @@
 -- One leaf more is lent, and one more is given back.
 use Rattle.std.proofs.Common.{◌≡◌, ℕ, List, [], ◌∷◌, ◌++◌, map, None, Some, refl, sym, ap, ◌∙◌, append_assoc, subst}
 use Rattle.std.specs.Prelude.{Option, reverse}
-use Rattle.std.proofs.lemmas.List.{append-nil, reverse-append, reverse-reverse}
+use Rattle.std.proofs.lemmas.List.{reverse-append}
 use mathlib.Core.List.{map-append}
 use Rattle.palm_node.specs.declared.node.Node.TheVariants.{Leaf}
 use Rattle.palm_arena.specs.declared.place.Place.{Place}
@@ -112,15 +112,6 @@ pub record GiveSoFar (start places : List Place) (all left : List (Option LeafWo
   pub turned : Turns (map_of start) (map_of places) [] (map lease_cell gone)
   pub lent : LentAre places (lease_ids (present left))
 
-pub given_none_yet : (start : List Place) (all : List (Option LeafWork)) (done : List LeafDone) → LentAre start (lease_ids (present all)) → done ≡ [] → GiveSoFar start start all all done
-given_none_yet start all done lent none = record {
-  gone = [];
-  whole = append-nil (present all);
-  done-are = none;
-  turned = λ others owned. owned;
-  lent = lent;
-}
-
 -- An item that isn't there is passed over.
 pub one_passed : (start places : List Place) (all left before : List (Option LeafWork)) (done : List LeafDone) → before ≡ left ++ None ∷ [] → GiveSoFar start places all before done → GiveSoFar start places all left done
 one_passed start places all left before done popped far =
@@ -164,13 +155,3 @@ one_given start places next all left before work done more popped far put pushed
           (turns_before (map_of places) (map_of after) [] (lease_cell work ∷ []) cells (put_turns places id node (lent_none places id here)))));
       lent = one_given_back places id node ids lent;
     }
-
-pub all_given : (start places : List Place) (all left : List (Option LeafWork)) (done : List LeafDone) → left ≡ [] → GiveSoFar start places all left done
-    → (done ≡ map done_of (reverse (present all))) × Turns (map_of start) (map_of places) [] (map lease_cell (reverse (present all))) × LentAre places []
-all_given start places all left done none far =
-    let empty : present left ≡ [] = ap present none in
-    let back : far.gone ≡ reverse (present all) = sym (ap reverse (sym far.whole ∙ ap (λ ws. ws ++ reverse far.gone) empty) ∙ reverse-reverse far.gone) in (
-      far.done-are ∙ ap (map done_of) back,
-      subst (λ ws. Turns (map_of start) (map_of places) [] (map lease_cell ws)) back far.turned,
-      subst (λ ws. LentAre places (lease_ids ws)) empty far.lent,
-    )

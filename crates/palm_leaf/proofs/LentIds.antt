@@ -49,9 +49,6 @@ lent_end places id node (first ∷ ids) held all =
 pub none_are_lent : (places : List Place) → NoneLent places → LentAre places []
 none_are_lent places none = record { each = tt; only = λ id lent. none id lent }
 
-pub none_lent_where : (places : List Place) → LentAre places [] → NoneLent places
-none_lent_where places lent id here = lent.only id here
-
 -- One more is lent.
 pub one_more_lent : (places : List Place) (id : NodeId) (node : Node) (ids : List NodeId) → node_at places id ≡ Some node → LentAre places ids → LentAre (with_place places id Lent) (ids ++ id ∷ [])
 one_more_lent places id node ids held lent = record {

@@ -1,7 +1,6 @@
 -- Items that pass a test, listed one after another as far as a limit allows.
 use Rattle.std.proofs.Common.{◌≡◌, ℕ, zero, suc, ◌+◌, ◌-◌, ◌<◌, Bool, true, false, List, [], ◌∷◌, ◌++◌, length, take, drop, get_or, filter, refl, sym, arith, ◌∙◌, append_assoc, length-append}
 use Rattle.std.specs.List.{AllWithin}
-use Rattle.std.proofs.lemmas.List.{append-nil}
 use Rattle.std.proofs.Math.Seq.{drop-cons}
 
 -- What is listed with what is still to come.
@@ -17,18 +16,6 @@ pub one_listed : {X : Type 0} (test : X → Bool) (limit : ℕ) (listed items : 
 one_listed test limit listed items item pass less =
     let more : limit - length listed ≡ suc (limit - length (listed ++ item ∷ [])) = omega (arith, length-append listed (item ∷ []), less) in
     rw (pass, more) (append_assoc listed (item ∷ []) _)
-
-pub limit_reached : {X : Type 0} (test : X → Bool) (limit : ℕ) (listed items : List X) → length listed ≡ limit → listed ≡ listed_with test limit listed items
-limit_reached test limit listed items full =
-    let none : limit - length listed ≡ 0 = omega (arith, full) in
-    rw none (sym (append-nil listed))
-
-pub all_seen : {X : Type 0} (test : X → Bool) (limit : ℕ) (listed : List X) → listed ≡ listed_with test limit listed []
-all_seen test limit listed = by (limit - length listed)
-  where
-    by : (n : ℕ) → listed ≡ listed ++ take n []
-    by zero = sym (append-nil listed)
-    by (suc n) = sym (append-nil listed)
 
 -- Items of which none passes need not be seen.
 pub none_before : {X : Type 0} (test : X → Bool) (items : List X) (i : ℕ) → AllWithin (λ x. test x ≡ false) items 0 i → filter test (drop i items) ≡ filter test items

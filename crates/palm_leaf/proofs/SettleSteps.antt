@@ -69,14 +69,6 @@ pub record SettleSoFar (start places : List Place) (all left : List LeafDone) (g
   pub ends : LeavesEnd (map_of start) (map_of places) (done_cells (map_of start) front) (map (end_of_done (map_of start)) front) gathered.nodes gathered.loose.items
   pub answers : gathered.answers ≡ answers_of_done front
 
-pub none_settled : (start : List Place) (all : List LeafDone) (gathered : Gathered) → gathered.nodes ≡ [] → gathered.loose.items ≡ [] → gathered.answers ≡ [] → SettleSoFar start start all all gathered
-none_settled start all gathered nodes loose answers = record {
-  front = [];
-  whole = refl;
-  ends = record { ids = []; fit = tt; changes-are = nodes; loose-are = loose; turned = λ others owned. owned };
-  answers = answers;
-}
-
 last_first : (left before : List LeafDone) (done : LeafDone) → before ≡ left ++ done ∷ [] → reverse before ≡ done ∷ reverse left
 last_first left before done popped = ap reverse popped ∙ reverse-append left (done ∷ [])
 
@@ -119,11 +111,3 @@ one_settled start places next all left before done gathered more others popped f
       answers =
           ended.answers-are ∙ ap (λ told. told ++ answers_of_plan done.plan) far.answers ∙ sym (flat_end (λ (d : LeafDone). answers_of_plan d.plan) far.front done);
     }
-
-pub all_settled : (start places : List Place) (all left : List LeafDone) (gathered : Gathered) → left ≡ [] → SettleSoFar start places all left gathered
-    → LeavesEnd (map_of start) (map_of places) (done_cells (map_of start) (reverse all)) (map (end_of_done (map_of start)) (reverse all)) gathered.nodes gathered.loose.items × (gathered.answers ≡ answers_of_done (reverse all))
-all_settled start places all left gathered none far =
-    let whole : far.front ≡ reverse all = sym (append-nil far.front) ∙ ap (λ (ds : List LeafDone). far.front ++ reverse ds) (sym none) ∙ far.whole in (
-      subst (λ (ds : List LeafDone). LeavesEnd (map_of start) (map_of places) (done_cells (map_of start) ds) (map (end_of_done (map_of start)) ds) gathered.nodes gathered.loose.items) whole far.ends,
-      far.answers ∙ ap answers_of_done whole,
-    )

@@ -10,7 +10,7 @@ use Rattle.palm_node.specs.declared.node.Node.{Node}
 use Rattle.palm_node.specs.declared.node.Node.TheVariants.{Inner}
 use Rattle.palm_node.specs.declared.change.Change.{Change}
 use Rattle.palm_node.specs.declared.change.Changes.{Changes}
-use Rattle.palm_share.specs.Jobs.{Holds, Relates}
+use Rattle.palm_share.specs.Jobs.{Relates}
 use Rattle.palm_arena.specs.declared.place.Place.{Place}
 use Rattle.palm_arena.specs.ArenaState.{ArenaState}
 use Rattle.palm_arena.specs.Reads.{map_of, inner_in, same_place}
@@ -22,19 +22,10 @@ use Rattle.palm_level.specs.Works.{first_node, parts_left, part_over}
 use Rattle.palm_level.specs.Splices.{children_left}
 use Rattle.palm_level.specs.Groups.{Touched, Group, is_still}
 use Rattle.palm_level.specs.Plans.{CanWork, touched_by, planned_key}
-use Rattle.palm_level.specs.Tasks.{times_if, times_worked, times_in, LentTo, WorkMayRun, WorkRan, TaskRan, WorkIsReady, TaskIsReady, WorkIsDone, TaskIsDone, task_key, lent_of, cell_in, lent_for, made_for, IsGroup, IsTask, later_of, later_count, HasLent, HasFinished, HasWorked, spare_in, spare_of}
+use Rattle.palm_level.specs.Tasks.{times_if, times_worked, times_in, LentTo, WorkRan, TaskRan, WorkIsReady, TaskIsReady, WorkIsDone, TaskIsDone, task_key, lent_of, cell_in, lent_for, made_for, IsGroup, IsTask, later_of, later_count, HasLent, HasFinished, HasWorked, spare_in, spare_of}
 use Rattle.palm_level.specs.declared.node_work.LevelWork.{LevelWork}
 use Rattle.palm_level.specs.declared.plan.Planned.{Planned}
 use Rattle.palm_level.specs.declared.task.Task.{Task}
-
-pub may_run : (nodes : NodeId → Option Node) (tasks : List (Option Task)) → AllByRecursion (TaskIsReady nodes) tasks → AllByRecursion (Holds (λ (task : Task). WorkMayRun task.work)) tasks
-may_run nodes [] all = tt
-may_run nodes (None ∷ ts) all = absurd all.0
-may_run nodes (Some t ∷ ts) all = (by t.work all.0.1, may_run nodes ts all.1)
-  where
-    by : (work : Option LevelWork) → WorkIsReady nodes t.parent.node t.parent.changes.now work → WorkMayRun work
-    by None ready = tt
-    by (Some w) ready = ready.4
 
 -- What ran is done.
 pub record RanTo (nodes : NodeId → Option Node) (before after : List (Option Task)) : Type 0 where

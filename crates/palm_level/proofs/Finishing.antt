@@ -15,12 +15,12 @@ use Rattle.palm_node.specs.declared.change.Changes.{Changes}
 use Rattle.palm_node.specs.declared.change.Removed.{Removed}
 use Rattle.palm_arena.specs.declared.place.Place.{Place}
 use Rattle.palm_arena.specs.declared.place.Place.TheVariants.{Empty, Lent, Holds}
-use Rattle.palm_arena.specs.ArenaState.{ArenaState, place_at, NoneLent}
+use Rattle.palm_arena.specs.ArenaState.{ArenaState, place_at}
 use Rattle.palm_arena.specs.Reads.{map_of}
 use Rattle.palm_arena.specs.Cells.{Owns, Turns}
 use Rattle.palm_level.specs.Groups.{Touched, Group, is_still, cells_after, group_change, group_removed}
 use Rattle.palm_level.specs.Plans.{CanWork, touched_by}
-use Rattle.palm_level.specs.Tasks.{lent_at, times_if, times_worked, times_in, LentTo, WorkIsDone, TaskIsDone, itself, change_for, removed_for, made_for, IsGroup, PutsBack, PutsBackAny, StandsFor, Finishes, FinishesAll, HasFinished, TaskIsLent, TaskComesHome, later_of, WorkIsLent}
+use Rattle.palm_level.specs.Tasks.{lent_at, times_if, times_worked, times_in, LentTo, WorkIsDone, TaskIsDone, itself, change_for, removed_for, made_for, IsGroup, PutsBack, PutsBackAny, StandsFor, Finishes, HasFinished, TaskIsLent, TaskComesHome, later_of, WorkIsLent}
 use Rattle.palm_level.specs.declared.node_work.LevelWork.{LevelWork}
 use Rattle.palm_level.specs.declared.task.Task.{Task}
 use Rattle.palm_level.proofs.Taking.{turns_more}
@@ -63,17 +63,11 @@ stand_made nodes level low id path changes work a b before after pieces can done
 
 -- ---- one task after another
 
-pub all_none : (nodes : NodeId → Option Node) (level : ℕ) (a : ArenaState) (changes : Changes) → FinishesAll nodes level a a [] changes changes
-all_none nodes level a changes = record { groups = []; are = refl; are-groups = tt; turns = λ others o. o; changed = sym (append-nil changes.nodes); removed = sym (append-nil changes.removed); loose = refl }
-
 -- How far the work is ended: the tasks that are left, and those that are finished.
 pub record FinishedSoFar (level : ℕ) (old new : ArenaState) (all left : List (Option Task)) (before after : Changes) : Type 0 where
   pub done : List (Option Task)
   pub whole : all ≡ left ++ done
   pub finished : HasFinished level old new done before after
-
-pub none_finished : (level : ℕ) (a : ArenaState) (all : List (Option Task)) (changes : Changes) → FinishedSoFar level a a all all changes changes
-none_finished level a all changes = record { done = []; whole = sym (append-nil all); finished = λ nodes done. all_none nodes level a changes }
 
 pub one_finished : (level : ℕ) (a b c : ArenaState) (all left popped : List (Option Task)) (task : Task) (first before after : Changes) → FinishedSoFar level a b all left first before → left ≡ popped ++ Some task ∷ []
     → ((nodes : NodeId → Option Node) → TaskIsDone nodes (Some task) → Finishes nodes level (touched_by task.parent) b c before after)
@@ -102,11 +96,6 @@ one_finished level a b c all left popped task first before after far is finishes
     both : {nodes : NodeId → Option Node} (gs : List Group) {g : Group} → AllByRecursion (IsGroup nodes) gs → IsGroup nodes g → AllByRecursion (IsGroup nodes) (gs ++ g ∷ [])
     both [] all one = (one, tt)
     both (x ∷ xs) all one = (all.0, both xs all.1 one)
-
-pub all_finished : (level : ℕ) (a b : ArenaState) (all left : List (Option Task)) (before after : Changes) → FinishedSoFar level a b all left before after → left ≡ [] → HasFinished level a b all before after
-all_finished level a b all left before after far none nodes done =
-    let same : all ≡ far.done = far.whole ∙ ap (λ l. l ++ far.done) none in
-    subst (λ l. FinishesAll nodes level a b l before after) (sym same) (far.finished nodes (subst (AllByRecursion (TaskIsDone nodes)) same done))
 
 -- ---- the leases
 
@@ -137,13 +126,6 @@ task_lent places tasks popped (Some task) is lent = by task.work refl
         is_lent Empty some = absurd (omega (arith, some))
         is_lent Lent some = refl
         is_lent (Holds node) some = absurd (omega (arith, some))
-
-pub none_lent : (places : List Place) (tasks : List (Option Task)) → tasks ≡ [] → LentTo places tasks → NoneLent places
-none_lent places tasks none lent id at =
-    let own = lent id in
-    let zero : sum_by (times_in id) tasks ≡ 0 = ap (sum_by (times_in id)) none in
-    let one : lent_at (place_at places id) ≡ 1 = ap lent_at at in
-    absurd (omega (arith, own, zero, one))
 
 -- ---- how many are taken
 

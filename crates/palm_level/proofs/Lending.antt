@@ -23,7 +23,7 @@ use Rattle.palm_arena.proofs.ListParts.{all_front}
 use Rattle.palm_level.specs.Groups.{Touched}
 use Rattle.palm_level.specs.Works.{IsReady, CanSplice}
 use Rattle.palm_level.specs.Plans.{CanWork, IsRoomAt, IsPlanned, planned_key}
-use Rattle.palm_level.specs.Tasks.{lent_at, times_if, times_worked, times_in, LentTo, TaskIsReady, WorkIsReady, task_key, lent_of, cell_in, Starts, WorkStarts, IsThere, planned_id, Distinct, HasLent}
+use Rattle.palm_level.specs.Tasks.{lent_at, times_if, times_worked, times_in, LentTo, TaskIsReady, WorkIsReady, task_key, lent_of, cell_in, Starts, WorkStarts, IsThere, planned_id, Distinct}
 use Rattle.palm_level.specs.declared.node_work.LevelWork.{LevelWork}
 use Rattle.palm_level.specs.declared.plan.Planned.{Planned}
 use Rattle.palm_level.specs.declared.plan.Room.{Room}
@@ -203,13 +203,6 @@ one_lent old b c all left popped tasks next task is far starts =
               let none : times_if (same_place id other) ≡ 0 = times_other id other apart in
               omega (arith, sum, before, worked, at, stays, none));
         }
-
-pub all_lent : (a b : ArenaState) (all left : List Planned) (tasks : List (Option Task)) → LentSoFar a b all left tasks → left ≡ [] → HasLent a b all tasks
-all_lent a b all left tasks far none = record {
-  keys = ap (λ ps. map planned_key ps ++ reverse (map task_key tasks)) (sym none) ∙ far.keys;
-  ready = far.ready;
-  turns = far.turns;
-}
 
 -- A start leaves what the batch began with.
 pub starts_begun : (next : Planned) (b c : ArenaState) (task : Task) → Starts next b c task → c.begun ≡ b.begun

@@ -39,16 +39,6 @@ apart_next changes n parent change less at other = subst (Apart parent) (sym (dr
 pub apart_end : (changes : List Change) (n : ℕ) (parent : NodeId) → length changes ≤ n → Apart parent (drop n changes)
 apart_end changes n parent past = subst (Apart parent) (sym (drop_all n changes past)) tt
 
--- One change more is of the parent.
-pub same_more : (changes : List Change) (n : ℕ) (parent : NodeId) (change : Change) → n < length changes → change ≡ get_or changes n change → parent_of change ≡ parent
-    → AllByRecursion (λ change. parent_of change ≡ parent) (take n changes) → AllByRecursion (λ change. parent_of change ≡ parent) (take (n + 1) changes)
-same_more changes n parent change less at same all =
-    subst (AllByRecursion (λ change. parent_of change ≡ parent)) (sym (take_more changes n change less ∙ ap (λ c. take n changes ++ c ∷ []) (sym at))) (both (take n changes) all)
-  where
-    both : (cs : List Change) → AllByRecursion (λ change. parent_of change ≡ parent) cs → AllByRecursion (λ change. parent_of change ≡ parent) (cs ++ change ∷ [])
-    both [] all = (same, tt)
-    both (c ∷ cs) all = (all.0, both cs all.1)
-
 -- What is left of a node is no more than its children and the pieces.
 total_more : (change : Change) (changes : List Change) → piece_total (change ∷ changes) ≡ length change.pieces + piece_total changes
 total_more change changes = sum_by-cons (λ (c : Change). length c.pieces) change changes

@@ -1,6 +1,5 @@
 -- Leases that come home, and ids that are taken for parts.
 use Rattle.std.proofs.Common.{◌≡◌, ◌≢◌, ℕ, suc, Bool, true, false, List, [], ◌∷◌, ◌++◌, length, map, refl, sym, ap, ◌∙◌, arith, subst, append_assoc, length-append, Option, Some, eq-eqb, eqb-true}
-use Rattle.std.proofs.lemmas.List.{append-nil}
 use mathlib.Core.Logic.{dite}
 use mathlib.Core.List.{map-append}
 use native.Mathlib.Decide.{ℕ_discrete}
@@ -107,9 +106,6 @@ many_cells (i ∷ is) (q ∷ qs) id p e = ap (λ (cs : List Cell). (i, Inner q.1
 length_nodes : (parts : List Part) → length (map as_node parts) ≡ length parts
 length_nodes [] = refl
 length_nodes (p ∷ ps) = ap suc (length_nodes ps)
-
-pub took_none : (a : ArenaState) (pieces : List Piece) → Took a a pieces pieces []
-took_none a pieces = record { ids = []; many = refl; pieces = sym (append-nil pieces); turns = λ others o. o }
 
 pub took_more : (a b c : ArenaState) (before pieces after : List Piece) (parts : List Part) (p : Part) (id : NodeId) → Took a b before pieces parts → IsVacant b.places id
     → c ≡ record b { places = with_place b.places id (Holds (Inner p.node)); moved = b.moved ++ id ∷ [] } → after ≡ pieces ++ record { low = p.low; id = id } ∷ [] → Took a c before after (parts ++ p ∷ [])

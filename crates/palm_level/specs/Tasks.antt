@@ -1,5 +1,5 @@
 -- The work on the touched nodes of a level, while their nodes are lent, and what it comes to.
-use Rattle.std.specs.Prelude.{◌≡◌, ◌+◌, ◌-◌, ℕ, Bool, true, false, if◌then◌else◌, List, [], ◌∷◌, ◌++◌, length, map, drop, reverse, sum_by, ◌≢◌, Option, None, Some, IsSome}
+use Rattle.std.specs.Prelude.{◌≡◌, ◌+◌, ℕ, Bool, true, false, if◌then◌else◌, List, [], ◌∷◌, ◌++◌, length, map, drop, reverse, sum_by, ◌≢◌, Option, None, Some, IsSome}
 use Rattle.std.specs.List.{flat_map, AllByRecursion}
 use Rattle.palm_node.specs.InnerNode.{InnerNode}
 use Rattle.palm_node.specs.declared.id.NodeId.{NodeId}
@@ -153,10 +153,6 @@ made_for group = let made = cells_after group in if is_still group.touched.chang
 pub record IsGroup (nodes : NodeId → Option Node) (group : Group) : Type 0 where
   pub held : nodes group.touched.id ≡ Some (Inner group.node)
   pub ids : is_still group.touched.changes ≡ false → length group.ids ≡ length (group_nodes group)
-
--- How many nodes a group takes.
-abbrev pub taken_for : Group → ℕ
-taken_for group = let made = length (group_nodes group) - 1 in if is_still group.touched.changes then 0 else made
 
 -- The arena after a task gave its node back and took the ids that it needs, and the changes with what became of the node.
 pub record Finishes (nodes : NodeId → Option Node) (level : ℕ) (touched : Touched) (old new : ArenaState) (before after : Changes) : Type 0 where
