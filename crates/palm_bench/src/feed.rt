@@ -1,6 +1,8 @@
 // The calls of a run, made one after another. The table is loaded with every other number from `FIRST` on, so that the numbers
 // between them are new prefixes all over the table.
-ghost use Rattle.std.specs.Prelude.{◌≡◌, ◌<◌, ◌≤◌};
+ghost use Rattle.std.specs.Prelude.{◌≡◌, ◌<◌, ◌≤◌, length, All, false};
+ghost use Rattle.palm_base.specs.Prefix.{is_no_digit};
+ghost use Rattle.palm_bench.specs.Kinds.{IsSet, IsDel, IsGet, IsEdit, IsOfKind};
 
 use palm_base::{Amount, Call, Digits};
 
@@ -26,7 +28,7 @@ pub enum Kind {
 /// Makes the calls of a kind on a table that is loaded with as many rows.
 #[derive(Drop)]
 pub struct Feed {
-    kind: Kind,
+    pub kind: Kind,
     /// Prefixes are numbers below this, counted from `FIRST`.
     span: u64,
     /// How many calls were made.
@@ -38,31 +40,57 @@ pub struct Feed {
     ghost some: { 0 < span },
 }
 
-// The prefix of nine digits that is a number counted from `FIRST`, which is there where it has nine digits.
-fn prefix_of(number: u64) -> Option<Digits> {
-    let mut rest = number.wrapping_add(FIRST);
-    let mut key = 9;
-    for place in 0..9u32 {
-        key |= (rest % 10) << (28 + 4 * place);
+// The last nine digits of a number, of which those counted from `FIRST` have no more.
+fn nine_digits(number: u64) -> [u8; 9]
+    ensures many { length result ≡ 9 }
+    ensures digits { All (λ b. is_no_digit b ≡ false) result }
+{
+    let mut text = [b'0'; 9];
+    let mut rest = number;
+    for place in 0..9 {
+        text[8 - place] = b'0' + (rest % 10) as u8;
         rest /= 10;
     }
-    Digits::from_key(key)
+    text
 }
 
-fn set(number: u64, rate: u64) -> Option<Call> {
-    let prefix = prefix_of(number)?;
-    let rate = Amount::new(rate % 1_000)?;
-    Some(Call::Set { prefix, rate })
+// The prefix of nine digits that is a number counted from `FIRST`.
+fn prefix_of(number: u64) -> Digits
+    ensures { length result ≡ 9 }
+{
+    let text = nine_digits(number.wrapping_add(FIRST));
+    let Ok(prefix) = Digits::read(&text) else {
+        unreachable!()
+    };
+    prefix
 }
 
-fn del(number: u64) -> Option<Call> {
-    let prefix = prefix_of(number)?;
-    Some(Call::Del { prefix })
+fn set(number: u64, rate: u64) -> Call
+    ensures { IsSet result }
+{
+    let Some(rate) = Amount::new(rate % 1_000) else {
+        unreachable!()
+    };
+    Call::Set {
+        prefix: prefix_of(number),
+        rate,
+    }
 }
 
-fn get(number: u64) -> Option<Call> {
-    let prefix = prefix_of(number)?;
-    Some(Call::Get { prefix })
+fn del(number: u64) -> Call
+    ensures { IsDel result }
+{
+    Call::Del {
+        prefix: prefix_of(number),
+    }
+}
+
+fn get(number: u64) -> Call
+    ensures { IsGet result }
+{
+    Call::Get {
+        prefix: prefix_of(number),
+    }
 }
 
 impl Feed {
@@ -70,6 +98,7 @@ impl Feed {
     pub fn new(kind: Kind, rows: u64) -> Feed
         requires some { 1 ≤ rows }
         requires few { rows ≤ 100000000 }
+        ensures { result.kind ≡ kind }
     {
         Feed {
             kind,
@@ -81,7 +110,10 @@ impl Feed {
     }
 
     // A random number below the span.
-    fn draw(&mut self) -> u64 {
+    fn draw(&mut self) -> u64
+        ensures below { result < self.old.span }
+        ensures kind { self.new.kind ≡ self.old.kind }
+    {
         self.random = self
             .random
             .wrapping_mul(6_364_136_223_846_793_005)
@@ -90,20 +122,25 @@ impl Feed {
     }
 
     // The edit with this number among all calls.
-    fn edit(&mut self, turn: u64) -> Option<Call> {
+    fn edit(&mut self, turn: u64) -> Call
+        ensures edit { IsEdit result }
+        ensures kind { self.new.kind ≡ self.old.kind }
+    {
         if turn % RUN == 0 {
             self.start = self.draw() / 2;
         }
         let number = self.start.wrapping_add(turn % RUN).wrapping_mul(2);
         if turn / RUN % 2 == 0 {
-            del(number)
-        } else {
-            set(number.wrapping_add(1), turn)
+            return del(number);
         }
+        set(number.wrapping_add(1), turn)
     }
 
-    /// The next call. All are there whose prefixes have nine digits.
-    pub fn next(&mut self) -> Option<Call> {
+    /// The next call.
+    pub fn next(&mut self) -> Call
+        ensures call { IsOfKind self.old.kind result }
+        ensures kind { self.new.kind ≡ self.old.kind }
+    {
         let turn = self.made;
         self.made = turn.wrapping_add(1);
         match self.kind {

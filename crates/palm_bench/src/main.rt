@@ -7,6 +7,7 @@ mod plan;
 mod run;
 #[cfg(test)]
 mod tests;
+mod words;
 
 use crate::plan::Plan;
 use crate::run::{Outcome, run};
@@ -18,7 +19,7 @@ use std::sync::ledger::Blank;
 // What the program's words plan. `None` where they are not of the form.
 fn planned(rt: &HostRuntime) -> Option<Plan> {
     let words: Vec<String> = env::args(rt).ok()?.skip(1).collect(rt.alloc()).ok()?;
-    plan::read(&words)
+    words::read(&words)
 }
 
 fn main(rt: HostRuntime) -> ExitCode {

@@ -1,9 +1,7 @@
-// What a run does, as the program's words say it.
-ghost use Rattle.std.specs.Prelude.{◌≤◌, IfSome};
+// What a run does.
+ghost use Rattle.std.specs.Prelude.{◌≤◌};
 
 use crate::feed::Kind;
-use palm_batch::MOST_CALLS;
-use palm_share::MOST_WORKERS;
 
 /// The greatest number of calls of a run, so that all its prefixes have nine digits.
 pub const MOST_COUNT: u64 = 100_000_000;
@@ -25,42 +23,4 @@ pub struct Plan {
     ghost few_batch: { batch ≤ 65536 },
     ghost some_workers: { 1 ≤ workers },
     ghost few_workers: { workers ≤ 64 },
-}
-
-fn read_kind(word: &str) -> Option<Kind> {
-    match word {
-        "load" => Some(Kind::Load),
-        "sets" => Some(Kind::Sets),
-        "edits" => Some(Kind::Edits),
-        "gets" => Some(Kind::Gets),
-        _ => None,
-    }
-}
-
-// The number that a word spells, from 1 to `most`.
-fn read_number(word: &str, most: u64) -> Option<u64>
-    ensures { IfSome result (λ number. (1 ≤ number) × (number ≤ most)) }
-{
-    let number = word.parse::<u64>().ok()?;
-    if number < 1 || number > most {
-        return None;
-    }
-    Some(number)
-}
-
-/// The plan of the words KIND COUNT BATCH WORKERS. `None` where they are not of this form.
-pub fn read(words: &Vec<String>) -> Option<Plan> {
-    let [kind, count, batch, workers] = words.as_slice() else {
-        return None;
-    };
-    let kind = read_kind(kind.as_str())?;
-    let count = read_number(count.as_str(), MOST_COUNT)?;
-    let batch = read_number(batch.as_str(), MOST_CALLS as u64)? as u32;
-    let workers = read_number(workers.as_str(), u64::from(MOST_WORKERS))? as u32;
-    Some(Plan {
-        kind,
-        count,
-        batch,
-        workers,
-    })
 }

@@ -1,5 +1,12 @@
 // A run: its calls are made and run batch by batch, in one list of entries.
-ghost use Rattle.std.specs.Prelude.{◌≡◌, ◌≤◌, ◌<◌};
+ghost use Rattle.std.specs.Prelude.{◌≡◌, ◌<◌, [], length, IfOk, OnOk};
+ghost use Rattle.std.proofs.Common.{zero};
+ghost use Rattle.std.specs.List.{AllByRecursion};
+ghost use Rattle.palm_base.specs.Lawful.{IsLawful};
+ghost use Rattle.palm_base.specs.Tree.{rows_of};
+ghost use Rattle.palm_tree.specs.TreeValue.{tree_in};
+ghost use Rattle.palm_bench.specs.Kinds.{IsOfKind};
+ghost use Rattle.palm_bench.specs.Runs.{reply_number, with_reply, with_replies, HasRun, IsOutcome, Leaves};
 
 use crate::feed::{Feed, Kind};
 use crate::plan::Plan;
@@ -21,28 +28,46 @@ pub struct Outcome {
     pub sum: u64,
 }
 
-// Adds a reply to the sum.
-fn add(sum: u64, reply: &Reply) -> u64 {
-    let (word, rate) = match reply {
-        Reply::New => (1, 0),
-        Reply::Was(rate) => (2, rate.get()),
-        Reply::Gone(rate) => (3, rate.get()),
-        Reply::Absent => (4, 0),
-        Reply::Value(rate) => (5, rate.get()),
-        Reply::Hit(_) | Reply::Rows(_) => (6, 0),
-    };
-    sum.wrapping_mul(31)
-        .wrapping_add(rate.wrapping_mul(8))
-        .wrapping_add(word)
+// A reply as a number: that of its word, and eight times its rate.
+fn number_of(reply: &Reply) -> u64
+    ensures { result ≡ reply_number reply.now }
+{
+    match reply {
+        Reply::New => 1,
+        Reply::Was(rate) => 2 + 8 * rate.get(),
+        Reply::Gone(rate) => 3 + 8 * rate.get(),
+        Reply::Absent => 4,
+        Reply::Value(rate) => 5 + 8 * rate.get(),
+        Reply::Hit(_) | Reply::Rows(_) => 6,
+    }
+}
+
+fn add(sum: u64, reply: &Reply) -> u64
+    ensures { result ≡ with_reply sum reply.now }
+{
+    sum.wrapping_mul(31).wrapping_add(number_of(reply))
+}
+
+// Adds replies to the sum, in their order.
+fn add_all(sum: u64, replies: &[Reply]) -> u64
+    ensures { result ≡ with_replies sum replies.now }
+{
+    let mut sum = sum;
+    for reply in replies {
+        sum = add(sum, reply);
+    }
+    sum
 }
 
 // Makes the next calls in place of those of the batch before.
-fn fill(feed: &mut Feed, count: u64, batch: &mut Vec<Entry>) -> Result<(), NoMemory> {
+fn fill(feed: &mut Feed, count: u64, batch: &mut Vec<Entry>) -> Result<(), NoMemory>
+    ensures many { OnOk result (length batch.new.items ≡ count) }
+    ensures kinds { OnOk result (AllByRecursion (λ entry. IsOfKind feed.old.kind entry.call) batch.new.items) }
+    ensures kind { feed.new.kind ≡ feed.old.kind }
+{
     batch.clear();
     for place in 0..count {
-        let Some(call) = feed.next() else {
-            break;
-        };
+        let call = feed.next();
         batch.push(Entry {
             caller: 0,
             place,
@@ -52,28 +77,54 @@ fn fill(feed: &mut Feed, count: u64, batch: &mut Vec<Entry>) -> Result<(), NoMem
     Ok(())
 }
 
-// Runs as many calls as planned of a feed, and adds the replies to the sum.
+// Runs as many calls of a kind as planned, and adds the replies to the sum.
 fn run_calls<R: Threads + Sync, L: Ledger>(
     rt: &R,
     engine: &mut Engine,
     plan: Plan,
-    feed: &mut Feed,
+    kind: Kind,
     entries: &mut Vec<Entry>,
     sum: u64,
     steps: &mut Steps<L>,
-) -> Result<u64, NoMemory> {
-    let size = u64::from(plan.batch);
+) -> Result<u64, NoMemory>
+    requires lawful { IsLawful (tree_in engine.old.tree) }
+    ensures lawful { IsLawful (tree_in engine.new.tree) }
+    ensures ran { IfOk result (λ total. HasRun kind plan.count (rows_of (tree_in engine.old.tree)) (rows_of (tree_in engine.new.tree)) sum total) }
+{
+    let mut feed = Feed::new(kind, plan.count);
     let mut sum = sum;
-    for turn in 0..plan.count.div_ceil(size) {
-        let count = plan.count.saturating_sub(turn.wrapping_mul(size)).min(size);
-        fill(feed, count, entries)?;
+    let mut left = plan.count;
+    while left > 0 {
+        let count = left.min(u64::from(plan.batch));
+        fill(&mut feed, count, entries)?;
         let replies = engine.run_list(rt, entries, plan.batch, plan.workers, &OpenGate, steps)?;
-        sum = replies.iter().fold(sum, add);
+        sum = add_all(sum, &replies);
+        left -= count;
     }
     Ok(sum)
 }
 
-/// Runs what is planned on the empty table: the load first, where the plan is no load itself.
+// Loads the empty table, and runs the calls of the plan on it where that is no load itself.
+fn run_plan<R: Threads + Sync, L: Ledger>(
+    rt: &R,
+    engine: &mut Engine,
+    plan: Plan,
+    entries: &mut Vec<Entry>,
+    steps: &mut Steps<L>,
+) -> Result<u64, NoMemory>
+    requires new { tree_in engine.old.tree ≡ (zero, []) }
+    ensures lawful { IsLawful (tree_in engine.new.tree) }
+    ensures leaves { IfOk result (λ sum. Leaves plan.kind plan.count (rows_of (tree_in engine.new.tree)) sum) }
+{
+    let sum = run_calls(rt, engine, plan, Kind::Load, entries, 0, steps)?;
+    if let Kind::Load = plan.kind {
+        return Ok(sum);
+    }
+    run_calls(rt, engine, plan, plan.kind, entries, sum, steps)
+}
+
+/// Runs what is planned on the empty table: the load first, and then the calls of the plan where it is no load itself.
+/// `NoMemory` where room was refused.
 pub fn run<R: Threads + Sync, L: Ledger>(
     rt: &R,
     alloc: Global,
@@ -83,33 +134,12 @@ pub fn run<R: Threads + Sync, L: Ledger>(
     requires name { blank.name ≡ L.name }
     requires parts { blank.parts ≡ L.parts }
     requires some { 0 < blank.parts }
+    ensures outcome { IfOk result (λ outcome. IsOutcome plan.kind plan.count outcome.rows outcome.levels outcome.sum) }
 {
     let mut steps = Steps::<L>::new(blank);
     let mut engine = Engine::new(alloc)?;
     let mut entries = Vec::with_capacity(alloc, plan.batch as usize)?;
-    let mut sum = 0;
-    let mut load = Feed::new(Kind::Load, plan.count);
-    sum = run_calls(
-        rt,
-        &mut engine,
-        plan,
-        &mut load,
-        &mut entries,
-        sum,
-        &mut steps,
-    )?;
-    if plan.kind != Kind::Load {
-        let mut feed = Feed::new(plan.kind, plan.count);
-        sum = run_calls(
-            rt,
-            &mut engine,
-            plan,
-            &mut feed,
-            &mut entries,
-            sum,
-            &mut steps,
-        )?;
-    }
+    let sum = run_plan(rt, &mut engine, plan, &mut entries, &mut steps)?;
     Ok(Outcome {
         rows: engine.tree.row_count(),
         levels: engine.tree.levels(),

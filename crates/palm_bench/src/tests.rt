@@ -2,7 +2,7 @@ use super::*;
 use std::alloc::{AllocError, Global};
 use std::test::Fail;
 
-fn words(alloc: Global, texts: &[&str]) -> Result<Vec<String>, AllocError> {
+fn given(alloc: Global, texts: &[&str]) -> Result<Vec<String>, AllocError> {
     texts
         .iter()
         .map(|text| String::from_str(alloc, text))
@@ -22,7 +22,7 @@ fn words_of_another_form_plan_nothing(rt: HostRuntime) -> Result<(), Fail> {
     ];
     for texts in cases {
         assert!(rt;
-            plan::read(&words(rt.alloc(), texts)?).is_none(),
+            words::read(&given(rt.alloc(), texts)?).is_none(),
             "{texts:?}"
         );
     }
@@ -40,8 +40,8 @@ fn every_cutting_gives_the_replies_of_an_ordinary_map(rt: HostRuntime) -> Result
     ];
     for (kind, rows, sum) in cases {
         for (batch, workers) in [("1", "1"), ("7", "3"), ("64", "1"), ("300", "64")] {
-            let texts = words(rt.alloc(), &[kind, "300", batch, workers])?;
-            let plan = plan::read(&texts).expect(&rt, "a plan");
+            let texts = given(rt.alloc(), &[kind, "300", batch, workers])?;
+            let plan = words::read(&texts).expect(&rt, "a plan");
             let outcome = run::<_, Brand>(&rt, rt.alloc(), plan, Blank::new(1))?;
             assert_eq!(rt; outcome.rows, rows, "{kind} in batches of {batch}");
             assert_eq!(rt; outcome.sum, sum, "{kind} in batches of {batch}");

@@ -1,0 +1,48 @@
+-- The kinds of calls that a run makes, and the words for them.
+use Rattle.std.specs.Prelude.{ℕ, ◌⊎◌, if◌then◌else◌, List, codes, Option, Some, None}
+use Rattle.std.specs.Str.{bytes_eq}
+use Rattle.palm_base.specs.declared.call.Call.{Call}
+use Rattle.palm_base.specs.declared.call.Call.TheVariants.{Set, Del, Get, Rate, List as Listing}
+use Rattle.palm_bench.specs.declared.feed.Kind.{Kind}
+use Rattle.palm_bench.specs.declared.feed.Kind.TheVariants.{Load, Sets, Edits, Gets}
+
+-- The kind that a word names. So "sets" names Sets, and "set" names none.
+abbrev pub kind_named : List ℕ → Option Kind
+kind_named word =
+    if bytes_eq word (codes "load") then Some Load
+    else if bytes_eq word (codes "sets") then Some Sets
+    else if bytes_eq word (codes "edits") then Some Edits
+    else if bytes_eq word (codes "gets") then Some Gets
+    else None
+
+abbrev pub IsSet : Call → Type 0
+IsSet (Set prefix rate) = Unit {0}
+IsSet (Del prefix) = ⊥
+IsSet (Get prefix) = ⊥
+IsSet (Rate number) = ⊥
+IsSet (Listing from to limit) = ⊥
+
+abbrev pub IsDel : Call → Type 0
+IsDel (Set prefix rate) = ⊥
+IsDel (Del prefix) = Unit {0}
+IsDel (Get prefix) = ⊥
+IsDel (Rate number) = ⊥
+IsDel (Listing from to limit) = ⊥
+
+abbrev pub IsGet : Call → Type 0
+IsGet (Set prefix rate) = ⊥
+IsGet (Del prefix) = ⊥
+IsGet (Get prefix) = Unit {0}
+IsGet (Rate number) = ⊥
+IsGet (Listing from to limit) = ⊥
+
+-- A Set or a Del.
+abbrev pub IsEdit : Call → Type 0
+IsEdit call = IsSet call ⊎ IsDel call
+
+-- A call as runs of this kind make it. So a Del is one of Edits and of no other kind.
+abbrev pub IsOfKind : Kind → Call → Type 0
+IsOfKind Load call = IsSet call
+IsOfKind Sets call = IsSet call
+IsOfKind Edits call = IsEdit call
+IsOfKind Gets call = IsGet call
