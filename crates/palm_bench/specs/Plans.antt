@@ -15,7 +15,7 @@ value_of word = digits_value 10 (without_leading_plus word)
 pub record IsCount (most : ℕ) (word : List ℕ) : Type 0 where
   pub digits : IsNumeral 10 (without_leading_plus word)
   pub least : 1 ≤ value_of word
-  pub most-is : value_of word ≤ most
+  pub greatest : value_of word ≤ most
 
 -- The words KIND COUNT BATCH WORKERS, where each is well formed, plan this.
 pub record SaysPlan (kind count batch workers : List ℕ) (plan : Plan) : Type 0 where
@@ -24,7 +24,7 @@ pub record SaysPlan (kind count batch workers : List ℕ) (plan : Plan) : Type 0
   pub batch-is : IsCount MOST_CALLS batch × (plan.batch ≡ value_of batch)
   pub workers-is : IsCount MOST_WORKERS workers × (plan.workers ≡ value_of workers)
 
--- The words plan this. So "load", "9", "4", "1" plan nine Sets in batches of four, and other than four words plan nothing.
+-- The words plan this. So "load", "9", "4", "1" plan nine Sets in batches of four, and "load" alone plans nothing.
 abbrev pub SayPlan : List (List ℕ) → Plan → Type 0
 SayPlan [] plan = ⊥
 SayPlan (kind ∷ []) plan = ⊥

@@ -28,6 +28,7 @@ pub enum Kind {
 /// Makes the calls of a kind on a table that is loaded with as many rows.
 #[derive(Drop)]
 pub struct Feed {
+    /// What the calls are.
     pub kind: Kind,
     /// Prefixes are numbers below this, counted from `FIRST`.
     span: u64,
@@ -40,7 +41,7 @@ pub struct Feed {
     ghost some: { 0 < span },
 }
 
-// The last nine digits of a number, of which those counted from `FIRST` have no more.
+// The last nine digits of a number, as text. A number counted from `FIRST` has no others.
 fn nine_digits(number: u64) -> [u8; 9]
     ensures many { length result ≡ 9 }
     ensures digits { All (λ b. is_no_digit b ≡ false) result }
