@@ -9,8 +9,9 @@ use Rattle.palm_base.specs.declared.call.Entry.{Entry}
 use Rattle.palm_base.specs.Table.{after}
 use Rattle.palm_base.specs.History.{calls_of, table_after}
 use Rattle.palm_base.specs.Pass.{batch_tree, tree_after}
-use Rattle.palm_base.specs.Tree.{Tree}
-use Rattle.palm_script.specs.Transcript.{batch_text, batches_text, cut_by}
+use Rattle.palm_base.specs.Tree.{Tree, rows_of}
+use Rattle.palm_script.specs.Transcript.{Progress, come_to, after_batch, batch_text, batches_text, cut_by}
+use Rattle.palm_script.specs.declared.dump.DumpWhen.{DumpWhen}
 
 -- the last length, where it isn't 0
 abbrev left_over : ℕ → List ℕ
@@ -40,21 +41,27 @@ cut_by-more most count some left =
     ]
 
 -- A batch more was written: what is written, with the text of what is left, is still the whole text.
-pub written_more : (most n : ℕ) (rows : List Row) (rest batch left : List Entry) (w all : List ℕ) → 1 ≤ most → 0 < length rest
-    → batch ≡ take (min (length rest) most) rest → left ≡ drop (min (length rest) most) rest
-    → w ++ batches_text n rows rest (cut_by most (length rest)) ≡ all
-    → (w ++ batch_text n rows batch) ++ batches_text (n + length batch) (table_after rows batch) left (cut_by most (length left)) ≡ all
-written_more most n rows rest batch left w all some more batch-is left-is whole =
+pub written_more : (dump : DumpWhen) (most : ℕ) (at next : Progress) (rest batch left : List Entry) (w all : List ℕ) → 1 ≤ most → 0 < length rest
+    → batch ≡ take (min (length rest) most) rest → left ≡ drop (min (length rest) most) rest → after_batch at batch ≡ next
+    → w ++ batches_text dump at rest (cut_by most (length rest)) ≡ all
+    → (w ++ (batch_text dump at batch ++ batches_text dump next left (cut_by most (length left))) ≡ all)
+written_more dump most at next rest batch left w all some more batch-is left-is next-is whole =
     let k : ℕ = min (length rest) most in
-    let size : length batch ≡ k = ap length batch-is ∙ length-take k rest ∙ omega arith in
     let fewer : length rest - k ≡ length left = omega (arith, length-drop k rest, ap length left-is) in
     let cut : cut_by most (length rest) ≡ k ∷ cut_by most (length left) = cut_by-more most (length rest) some more ∙ ap (λ (m : ℕ). k ∷ cut_by most m) fewer in
-    let by_count : ℕ → Type 0 = λ m.
-    batches_text n rows rest (cut_by most (length rest)) ≡ batch_text n rows batch ++ batches_text (n + m) (table_after rows batch) left (cut_by most (length left)) in
-    let one = ap (batches_text n rows rest) cut in
-    let opened : by_count (length batch) = subst by_count (sym size) (rw (← batch-is, ← left-is) at one) in
-    append_assoc w (batch_text n rows batch) (batches_text (n + length batch) (table_after rows batch) left (cut_by most (length left)))
-    ∙ ap (λ (l : List ℕ). w ++ l) (sym opened) ∙ whole
+    let opened : batches_text dump at rest (cut_by most (length rest)) ≡ batch_text dump at batch ++ batches_text dump next left (cut_by most (length left)) =
+    ap (batches_text dump at rest) cut
+    ∙ ap (λ (b : List Entry). batch_text dump at b ++ batches_text dump (after_batch at b) (drop k rest) (cut_by most (length left))) (sym batch-is)
+    ∙ ap (λ (l : List Entry). batch_text dump at batch ++ batches_text dump (after_batch at batch) l (cut_by most (length left))) (sym left-is)
+    ∙ ap (λ (to : Progress). batch_text dump at batch ++ batches_text dump to left (cut_by most (length left))) next-is in
+    ap (λ (l : List ℕ). w ++ l) (sym opened) ∙ whole
+
+-- how far a tree and a table have come that were left by a batch
+pub came_on : (n : ℕ) (old new : Tree) (batch : List Entry) → new ≡ batch_tree old (calls_of batch) → rows_of new ≡ table_after (rows_of old) batch
+    → after_batch (come_to n old) batch ≡ come_to (n + length batch) new
+came_on n old new batch tree rows =
+    ap (λ (t : Tree). record { calls = n + length batch; rows = table_after (rows_of old) batch; tree = t }) (sym tree)
+    ∙ ap (λ (table : List Row). record { calls = n + length batch; rows = table; tree = new }) (sym rows)
 
 -- A batch more was run: what is left leaves of its tree what all that was left did before.
 pub tree_more : (most : ℕ) (tree next all : Tree) (rest batch left : List Entry) → 1 ≤ most → 0 < length rest

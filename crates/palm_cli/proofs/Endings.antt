@@ -1,112 +1,66 @@
--- How the run of a script ends, by how far it was read, where no line has a fault.
-use Rattle.std.proofs.Common.{◌≡◌, ℕ, zero, ◌≤◌, true, false, List, [], length, take, Option, Some, None, sym, ap, subst, ◌∙◌, arith}
-use Rattle.std.specs.Prelude.{IfSome}
+-- The transcript of a run, as far as it is written, and what it leaves.
+use Rattle.std.proofs.Common.{◌≡◌, ℕ, zero, Bool, true, false, List, [], ◌++◌, Option, refl, sym, ap, subst, ◌∙◌, arith}
 use Rattle.std.specs.Io.KnownBytes.{Appends}
 use Rattle.std.proofs.KnownBytes.{Appends-trans}
 use Rattle.std.proofs.lemmas.List.{append-nil}
-use Rattle.palm_base.specs.History.{table_after}
 use Rattle.palm_base.specs.Lawful.{IsLawful}
-use Rattle.palm_base.specs.Pass.{tree_after}
-use Rattle.palm_base.specs.Tree.{Tree, rows_of}
+use Rattle.palm_base.specs.Tree.{Tree}
+use Rattle.palm_script.specs.Transcript.{Progress, Section, begin, come_to, after_run, after_sections, sections_text, text_of, final_of, ending, sections_by}
+use Rattle.palm_script.specs.Script.{Outcome, Says, entries_from}
+use Rattle.palm_script.specs.declared.script.Script.{Script}
+use Rattle.palm_words.specs.declared.settings.Settings.{Settings}
 use Rattle.palm_base.specs.declared.call.Entry.{Entry}
-use Rattle.palm_script.specs.declared.input.TheConstants.{MOST_BYTES}
-use Rattle.palm_script.specs.declared.input.InputEnd.{InputEnd}
-use Rattle.palm_script.specs.declared.input.InputEnd.TheVariants.{Whole, Failed, Long}
-use Rattle.palm_script.specs.Causes.{Rose}
-use Rattle.palm_script.specs.Input.{IsRead, is_whole}
-use Rattle.palm_script.specs.Script.{Outcome, script_of, entries_from}
-use Rattle.palm_script.specs.Transcript.{batches_text, cut_by, end_line, history_of, text_of, final_of}
-use Rattle.palm_cli.specs.Ends.{IsGood, IsCutShort, IsLong, run_of, run_tree}
+use Rattle.palm_cli.specs.Ends.{run_of, tree_said}
+use Rattle.palm_script.specs.declared.dump.DumpWhen.{DumpWhen}
+use Rattle.palm_cli.specs.Streams.{AppendsFront, text_to}
+use Rattle.palm_cli.proofs.Fronts.{front_longer, front_more}
 
 -- The empty tree is lawful.
 pub empty_is_lawful : (tree : Tree) → tree ≡ (zero, []) → IsLawful tree
 empty_is_lawful tree is = subst IsLawful (sym is) (0, (omega arith, tt))
 
--- What was run of a script: the entries that were read are its calls, and the tree began empty.
-pub record HasRun (outcome : Outcome) (entries told : List Entry) (tree : Tree) : Type 0 where
-  pub entries-are : entries ≡ entries_from [] outcome.items
-  pub told-are : told ≡ entries
-  pub empty : tree ≡ (zero, [])
+begun : (tree : Tree) → tree ≡ (zero, []) → come_to 0 tree ≡ begin
+begun tree is = ap (come_to 0) is
 
--- Its transcript is that of the script's run, and its tree the run's.
-pub text_run : (outcome : Outcome) (entries told : List Entry) (tree : Tree) (old new : Option (List ℕ)) → HasRun outcome entries told tree
-    → Appends old new (batches_text 0 (rows_of tree) told (cut_by 4_096 (length told))) → Appends old new (text_of (run_of outcome))
-text_run outcome entries told tree old new run text =
-    let own : List Entry = entries_from [] outcome.items in
-    let same : batches_text 0 (rows_of tree) told (cut_by 4_096 (length told)) ≡ batches_text 0 [] own (cut_by 4_096 (length own)) =
-    ap (λ (t : Tree). batches_text 0 (rows_of t) told (cut_by 4_096 (length told))) run.empty
-    ∙ ap (λ (es : List Entry). batches_text 0 [] es (cut_by 4_096 (length es))) (run.told-are ∙ run.entries-are) in
-    subst (Appends old new) (same ∙ sym (append-nil (batches_text 0 [] own (cut_by 4_096 (length own))))) text
+-- Where the sections of a run come to from the empty tree.
+pub run_comes_to : (tree after : Tree) (run : List Section) (calls : ℕ) → tree ≡ (zero, []) → after_sections (come_to 0 tree) run ≡ come_to calls after → after_run run ≡ come_to calls after
+run_comes_to tree after run calls is came = ap (λ (at : Progress). after_sections at run) (sym (begun tree is)) ∙ came
 
-pub tree_run : (outcome : Outcome) (entries told : List Entry) (tree after : Tree) → HasRun outcome entries told tree
-    → after ≡ tree_after tree told (cut_by 4_096 (length told)) → after ≡ run_tree (run_of outcome)
-tree_run outcome entries told tree after run is =
-    is ∙ ap (λ (t : Tree). tree_after t told (cut_by 4_096 (length told))) run.empty
-    ∙ ap (λ (es : List Entry). tree_after (zero, []) es (cut_by 4_096 (length es))) (run.told-are ∙ run.entries-are)
+-- The text of its sections is that of the run.
+pub run_text : (dump : DumpWhen) (tree : Tree) (run : List Section) (a b : Option (List ℕ)) → tree ≡ (zero, []) → Appends a b (sections_text dump (come_to 0 tree) run) → Appends a b (text_of dump run)
+run_text dump tree run a b is took = subst (λ (at : Progress). Appends a b (sections_text dump at run)) (begun tree is) took
 
--- With the last line it is the whole transcript.
-pub final_run : (outcome : Outcome) (entries told : List Entry) (tree after : Tree) (calls rows : ℕ) (old now new : Option (List ℕ)) → HasRun outcome entries told tree
-    → Appends old now (text_of (run_of outcome)) → Appends now new (end_line calls rows) → calls ≡ length entries → rows ≡ length (rows_of after) → rows_of after ≡ table_after (rows_of tree) told
-    → Appends old new (final_of (run_of outcome))
-final_run outcome entries told tree after calls rows old now new run text line calls-are rows-are left =
-    let own : List Entry = entries_from [] outcome.items in
-    let all : history_of (run_of outcome) ≡ own = append-nil own in
-    let many : calls ≡ length (history_of (run_of outcome)) = calls-are ∙ ap length (run.entries-are ∙ sym all) in
-    let table : rows ≡ length (table_after [] (history_of (run_of outcome))) =
-    rows-are ∙ ap length (left ∙ ap (λ (t : Tree). table_after (rows_of t) told) run.empty ∙ ap (table_after []) (run.told-are ∙ run.entries-are ∙ sym all)) in
-    Appends-trans _ _ _ _ _ text (subst (λ (n : ℕ). Appends now new (end_line n (length (table_after [] (history_of (run_of outcome)))))) many (subst (λ (n : ℕ). Appends now new (end_line calls n)) table line))
+pub run_front : (dump : DumpWhen) (tree : Tree) (run : List Section) (a b : Option (List ℕ)) → tree ≡ (zero, []) → AppendsFront a b (sections_text dump (come_to 0 tree) run) → AppendsFront a b (text_of dump run)
+run_front dump tree run a b is took = subst (λ (at : Progress). AppendsFront a b (sections_text dump at run)) (begun tree is) took
 
--- ---- the three ends
+-- A front of it begins the transcript, with what stands at the end or without.
+pub text_front : (dump : DumpWhen) (ends : Bool) (run : List Section) (a b : Option (List ℕ)) → AppendsFront a b (text_of dump run) → AppendsFront a b (text_to dump ends run)
+text_front dump true run a b took = front_longer a b (text_of dump run) (ending dump (after_run run)) (final_of dump run) took refl
+text_front dump false run a b took = took
 
--- The source was read to its end.
-pub good_script : (left : Option (List ℕ)) (before now : ℕ) (bytes : List ℕ) (end : InputEnd) (outcome : Outcome) (old new : Option (List ℕ)) (after : Tree)
-    → end ≡ Whole → IsRead left before now bytes end → length bytes ≤ MOST_BYTES → script_of bytes (is_whole end) ≡ outcome → outcome.fault ≡ None
-    → Appends old new (final_of (run_of outcome)) → after ≡ run_tree (run_of outcome) → IfSome left (λ b. IsGood b old new after) × (now ≡ before)
-good_script None before now bytes Whole outcome old new after end read most same none text tree = (tt, read.1)
-good_script (Some b) before now bytes Whole outcome old new after end read most same none text tree =
-    let all : script_of b true ≡ outcome = ap (λ (l : List ℕ). script_of l true) read.0 ∙ same in (
-      record {
-        size = rw read.0 most;
-        good = ap (λ (o : Outcome). o.fault) all ∙ none;
-        text = subst (λ (o : Outcome). Appends old new (final_of (run_of o))) (sym all) text;
-        tree = tree ∙ ap (λ (o : Outcome). run_tree (run_of o)) (sym all);
-      },
-      read.1,
-    )
-good_script left before now bytes Failed outcome old new after end read most same none text tree = cc
-good_script left before now bytes Long outcome old new after end read most same none text tree = cc
+-- The end of the transcript was written behind it.
+pub text_ended : (dump : DumpWhen) (run : List Section) (at : Progress) (a b c : Option (List ℕ)) → after_run run ≡ at → Appends a b (text_of dump run) → Appends b c (ending dump at) → Appends a c (final_of dump run)
+text_ended dump run at a b c is text took =
+    Appends-trans a b c (text_of dump run) (ending dump (after_run run)) text (subst (λ (to : Progress). Appends b c (ending dump to)) (sym is) took)
 
--- The source failed.
-pub cut_script : (left : Option (List ℕ)) (before now : ℕ) (bytes : List ℕ) (end : InputEnd) (outcome : Outcome) (old new : Option (List ℕ)) (after : Tree)
-    → end ≡ Failed → IsRead left before now bytes end → script_of bytes (is_whole end) ≡ outcome → outcome.fault ≡ None
-    → Appends old new (text_of (run_of outcome)) → after ≡ run_tree (run_of outcome) → Rose before now × IfSome left (λ b. IsCutShort b old new after)
-cut_script None before now bytes Failed outcome old new after end read same none text tree = (read.1, tt)
-cut_script (Some b) before now bytes Failed outcome old new after end read same none text tree = (
-  read.1,
-  record {
-    read = bytes;
-    rest = read.0.0;
-    front = read.0.1;
-    good = ap (λ (o : Outcome). o.fault) same ∙ none;
-    text = subst (λ (o : Outcome). Appends old new (text_of (run_of o))) (sym same) text;
-    tree = tree ∙ ap (λ (o : Outcome). run_tree (run_of o)) (sym same);
-  },
-)
-cut_script left before now bytes Whole outcome old new after end read same none text tree = cc
-cut_script left before now bytes Long outcome old new after end read same none text tree = cc
+pub end_front : (dump : DumpWhen) (run : List Section) (at : Progress) (a b c : Option (List ℕ)) → after_run run ≡ at → Appends a b (text_of dump run) → AppendsFront b c (ending dump at) → AppendsFront a c (final_of dump run)
+end_front dump run at a b c is text took =
+    let more : AppendsFront b c (ending dump (after_run run)) = subst (λ (to : Progress). AppendsFront b c (ending dump to)) (sym is) took in
+    front_more a b c (text_of dump run) (ending dump (after_run run)) [] (final_of dump run) text more (ap (λ (l : List ℕ). text_of dump run ++ l) (append-nil (ending dump (after_run run))))
 
--- The source has a byte too many.
-pub long_script : (left : Option (List ℕ)) (before now : ℕ) (bytes : List ℕ) (end : InputEnd) (outcome : Outcome) (old new : Option (List ℕ)) (after : Tree)
-    → end ≡ Long → IsRead left before now bytes end → script_of bytes (is_whole end) ≡ outcome → outcome.fault ≡ None
-    → Appends old new (text_of (run_of outcome)) → after ≡ run_tree (run_of outcome) → IfSome left (λ b. IsLong b old new after)
-long_script None before now bytes Long outcome old new after end read same none text tree = tt
-long_script (Some b) before now bytes Long outcome old new after end read same none text tree =
-    let front : script_of (take MOST_BYTES b) false ≡ outcome = ap (λ (l : List ℕ). script_of l false) (sym read.0.1) ∙ same in
-    record {
-      size = read.0.0;
-      good = ap (λ (o : Outcome). o.fault) front ∙ none;
-      text = subst (λ (o : Outcome). Appends old new (text_of (run_of o))) (sym front) text;
-      tree = tree ∙ ap (λ (o : Outcome). run_tree (run_of o)) (sym front);
-    }
-long_script left before now bytes Whole outcome old new after end read same none text tree = cc
-long_script left before now bytes Failed outcome old new after end read same none text tree = cc
+-- What was read of a script has the run of what it says.
+said_run : (settings : Settings) (outcome : Outcome) (script : Script) → Says outcome script → sections_by settings.batch script.entries.items script.ends.items ≡ run_of settings outcome
+said_run settings outcome script says =
+    ap (λ (entries : List Entry). sections_by settings.batch entries script.ends.items) says.entries ∙ ap (sections_by settings.batch (entries_from [] outcome.items)) says.ends
+
+pub said_text : (settings : Settings) (outcome : Outcome) (script : Script) (ends : Bool) (a b : Option (List ℕ)) → Says outcome script
+    → Appends a b (text_to settings.dump ends (sections_by settings.batch script.entries.items script.ends.items)) → Appends a b (text_to settings.dump ends (run_of settings outcome))
+said_text settings outcome script ends a b says text = subst (λ (run : List Section). Appends a b (text_to settings.dump ends run)) (said_run settings outcome script says) text
+
+pub said_front : (settings : Settings) (outcome : Outcome) (script : Script) (ends : Bool) (a b : Option (List ℕ)) → Says outcome script
+    → AppendsFront a b (text_to settings.dump ends (sections_by settings.batch script.entries.items script.ends.items)) → AppendsFront a b (text_to settings.dump ends (run_of settings outcome))
+said_front settings outcome script ends a b says front = subst (λ (run : List Section). AppendsFront a b (text_to settings.dump ends run)) (said_run settings outcome script says) front
+
+pub said_tree : (settings : Settings) (outcome : Outcome) (script : Script) (after : Tree) → Says outcome script
+    → after ≡ (after_run (sections_by settings.batch script.entries.items script.ends.items)).tree → after ≡ tree_said settings outcome
+said_tree settings outcome script after says tree = tree ∙ ap (λ (run : List Section). (after_run run).tree) (said_run settings outcome script says)

@@ -1,3 +1,7 @@
 mod Batches
 mod Endings
-mod Faults
+mod Fronts
+mod Outcomes
+mod Sections
+mod Statuses
+mod Stopped

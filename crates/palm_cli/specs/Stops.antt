@@ -1,4 +1,8 @@
--- The status of a run that stopped.
+-- The status of a run that stopped, and of one that came to its end.
+use Rattle.std.specs.Prelude.{Option, None, Some}
+use Rattle.palm_script.specs.declared.line.LineFault.{LineFault}
+use Rattle.palm_script.specs.declared.input.InputEnd.{InputEnd}
+use Rattle.palm_script.specs.declared.input.InputEnd.TheVariants as ends
 use Rattle.palm_cli.specs.declared.run.Stop.{Stop}
 use Rattle.palm_cli.specs.declared.run.Stop.TheVariants as stops
 use Rattle.palm_cli.specs.declared.status.Status.{Status}
@@ -8,3 +12,11 @@ use Rattle.palm_cli.specs.declared.status.Status.TheVariants as statuses
 abbrev pub status_of : Stop → Status
 status_of stops.Memory = statuses.NoMemory
 status_of stops.Write = statuses.WriteFault
+
+-- How the program ends where all was run that was read of a script: by its first faulty line, and where there is none by how
+-- the reading ended.
+abbrev pub ended_by : Option LineFault → InputEnd → Status
+ended_by (Some fault) end = statuses.Bad fault
+ended_by None ends.Whole = statuses.Done
+ended_by None ends.Failed = statuses.ReadFault
+ended_by None ends.Long = statuses.TooLong

@@ -2,6 +2,7 @@
 #![tactic(auto)]
 
 mod palm;
+mod replay;
 mod run;
 mod status;
 #[cfg(test)]

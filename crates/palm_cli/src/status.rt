@@ -1,5 +1,6 @@
 ghost use Rattle.std.specs.Prelude.{◌≡◌, ◌⊎◌, OnOk, OnErr, IfOk, string_bytes};
-ghost use Rattle.palm_cli.specs.Ends.{code_of, status_text, fault_line, Told};
+ghost use Rattle.palm_cli.specs.Ends.{code_of, status_text, fault_line};
+ghost use Rattle.palm_cli.specs.Streams.{Told};
 
 use palm_base::NoMemory;
 use palm_script::{Failed, LineFault, Sink, write_all};

@@ -1,5 +1,5 @@
 use super::*;
-use palm_script::{MemSink, MemSource, SureSource};
+use palm_script::{MOST_BYTES, MemSink, MemSource, SureSource};
 use std::alloc::Global;
 use std::process::Abort;
 use std::test::Fail;
@@ -43,6 +43,7 @@ fn run<R: Threads + Sync, S: Source, O: Sink, E: Sink>(
 fn replays<R: Threads + Sync + Abort>(
     rt: &R,
     alloc: Global,
+    texts: &[&str],
     script: &str,
     status: u8,
     out: &str,
@@ -51,7 +52,7 @@ fn replays<R: Threads + Sync + Abort>(
     let mut src = SureSource::new(Vec::from_slice(alloc, script.as_bytes())?);
     let mut transcript = sink(alloc, 7, None)?;
     let mut told = sink(alloc, 100, None)?;
-    let all = words(alloc, &["replay"])?;
+    let all = words(alloc, texts)?;
     let got = run(rt, alloc, &all, &mut src, &mut transcript, &mut told);
     assert_eq!(rt; got, status, "{script}");
     assert_eq!(rt; transcript.taken(), out.as_bytes(), "{script}");
@@ -89,7 +90,7 @@ fn scripts_give_their_transcripts(rt: HostRuntime) -> Result<(), Fail> {
         ),
         ("64 get 4\n", 3, "", "palm: line 1 fault 1\n"),
     ] {
-        replays(&rt, rt.alloc(), script, status, out, err)?;
+        replays(&rt, rt.alloc(), &["replay"], script, status, out, err)?;
     }
     Ok(())
 }
@@ -109,7 +110,160 @@ fn rates_and_lists_are_served(rt: HostRuntime) -> Result<(), Fail> {
     ] {
         let script = format!(in alloc; "{sets}{asks}\n")?;
         let transcript = format!(in alloc; "{new}4 0 {answers}\n= 5\nend 5 4\n")?;
-        replays(&rt, alloc, &script, 0, &transcript, "")?;
+        replays(&rt, alloc, &["replay"], &script, 0, &transcript, "")?;
+    }
+    Ok(())
+}
+
+// Sections, and the dumps that a line or an option asks for.
+#[test]
+fn cuts_and_dumps(rt: HostRuntime) -> Result<(), Fail> {
+    let alloc = rt.alloc();
+    let one = "0 set 1 1\ndump\ncut\ncut\ndump\n";
+    let two = "0 set 1 1\n5 get 1\ncut\n0 del 1\n5 get 1\n";
+    let shape = "tree 1 1\nleaf 1 1 1\n";
+    let empty = "tree 1 0\nleaf 0\n";
+    let first = "0 0 new\n1 5 value 1\n= 2\n";
+    let second = "2 0 gone 1\n3 5 absent\n= 2\n";
+    let set = "0 0 new\n= 1\n";
+    for (options, script, transcript) in [
+        ("--dump=none", "", "end 0 0\n"),
+        ("--dump=end", "", &format!(in alloc; "{empty}end 0 0\n")?),
+        ("--dump=all", "", "end 0 0\n"),
+        (
+            "--dump=none",
+            one,
+            &format!(in alloc; "{set}{shape}{shape}end 1 1\n")?,
+        ),
+        (
+            "--dump=end",
+            one,
+            &format!(in alloc; "{set}{shape}{shape}{shape}end 1 1\n")?,
+        ),
+        (
+            "--dump=all",
+            one,
+            &format!(in alloc; "{set}{shape}{shape}{shape}end 1 1\n")?,
+        ),
+        (
+            "--dump=none",
+            two,
+            &format!(in alloc; "{first}{second}end 4 0\n")?,
+        ),
+        (
+            "--dump=all",
+            two,
+            &format!(in alloc; "{first}{shape}{second}{empty}end 4 0\n")?,
+        ),
+        (
+            "--batch=1",
+            two,
+            "0 0 new\n= 1\n1 5 value 1\n= 1\n2 0 gone 1\n= 1\n3 5 absent\n= 1\nend 4 0\n",
+        ),
+    ] {
+        replays(&rt, alloc, &["replay", options], script, 0, transcript, "")?;
+    }
+    Ok(())
+}
+
+// Appends a prefix and its rate, which are this number, after a blank, for each number of a range.
+fn append_pairs(text: &mut String, from: u32, to: u32) -> Result<(), Fail> {
+    let alloc = *text.allocator();
+    for p in from..=to {
+        text.push_str(&format!(in alloc; " {p} {p}")?)?;
+    }
+    Ok(())
+}
+
+// The line of the leaf of such rows, of which there are so many.
+fn leaf(alloc: Global, count: u32, from: u32, to: u32) -> Result<String, Fail> {
+    let mut line = format!(in alloc; "leaf {count}")?;
+    append_pairs(&mut line, from, to)?;
+    line.push_str("\n")?;
+    Ok(line)
+}
+
+// The shape of 34 rows depends on the batches, and not on the workers.
+#[test]
+fn batches_shape_the_tree_and_workers_do_not(rt: HostRuntime) -> Result<(), Fail> {
+    let alloc = rt.alloc();
+    let mut script = String::new(alloc);
+    let mut together = String::new(alloc);
+    let mut apart = String::new(alloc);
+    for n in 0..34u32 {
+        let p = n + 10;
+        script.push_str(&format!(in alloc; "0 set {p} {p}\n")?)?;
+        together.push_str(&format!(in alloc; "{n} 0 new\n")?)?;
+        apart.push_str(&format!(in alloc; "{n} 0 new\n= 1\n")?)?;
+    }
+    script.push_str("dump\n")?;
+    together.push_str("= 34\ntree 2 34\ninner 3 22 33\n")?;
+    for (count, from, to) in [(12, 10, 21), (11, 22, 32), (11, 33, 43)] {
+        together.push_str(&leaf(alloc, count, from, to)?)?;
+    }
+    apart.push_str("tree 2 34\ninner 3 19 28\n")?;
+    for (count, from, to) in [(9, 10, 18), (9, 19, 27), (16, 28, 43)] {
+        apart.push_str(&leaf(alloc, count, from, to)?)?;
+    }
+    together.push_str("end 34 34\n")?;
+    apart.push_str("end 34 34\n")?;
+    for workers in ["--workers=1", "--workers=3", "--workers=64"] {
+        replays(&rt, alloc, &[workers, "replay"], &script, 0, &together, "")?;
+        let one_by_one = ["--batch", "1", workers, "replay"];
+        replays(&rt, alloc, &one_by_one, &script, 0, &apart, "")?;
+    }
+    Ok(())
+}
+
+// A write takes all that it is offered, so that each text is one write: that of a batch, a dump that a line asks for, another
+// batch, and what stands at the end.
+#[test]
+fn texts_are_offered_whole(rt: HostRuntime) -> Result<(), Fail> {
+    let alloc = rt.alloc();
+    let all = words(alloc, &["replay", "--dump", "end"])?;
+    let shape = "tree 1 1\nleaf 1 4 1\n";
+    let texts = [
+        "0 0 new\n= 1\n",
+        shape,
+        "1 0 value 1\n= 1\n",
+        "tree 1 1\nleaf 1 4 1\nend 2 1\n",
+    ];
+    let mut taken = String::new(alloc);
+    for (number, text) in texts.iter().enumerate() {
+        let mut src = SureSource::new(Vec::from_slice(alloc, b"0 set 4 1\ndump\n0 get 4\n")?);
+        let mut out = sink(alloc, 1_000, Some(number as u64))?;
+        let mut err = sink(alloc, 100, None)?;
+        assert_eq!(rt; run(&rt, alloc, &all, &mut src, &mut out, &mut err), 5);
+        assert_eq!(rt; out.taken(), taken.as_bytes(), "write {number}");
+        assert_eq!(rt; err.taken(), b"palm: write fault\n".as_slice());
+        taken.push_str(text)?;
+    }
+    Ok(())
+}
+
+// 65,536 comments of 1,024 bytes with their ends are as much as is taken.
+#[test]
+fn the_largest_source(rt: HostRuntime) -> Result<(), Fail> {
+    let alloc = rt.alloc();
+    let all = words(alloc, &["replay"])?;
+    let mut line = vec![in alloc; b'#'; 1_023]?;
+    line.push(b'\n')?;
+    for (more, status, transcript, line_told) in [
+        ("", 0, "end 0 0\n", ""),
+        ("#", 7, "", "palm: input too long\n"),
+    ] {
+        let mut bytes = Vec::with_capacity(alloc, MOST_BYTES + 1)?;
+        for _ in 0..65_536 {
+            bytes.extend_from_slice(&line)?;
+        }
+        bytes.extend_from_slice(more.as_bytes())?;
+        let mut src = SureSource::new(bytes);
+        let mut out = sink(alloc, 100, None)?;
+        let mut err = sink(alloc, 100, None)?;
+        let got = run(&rt, alloc, &all, &mut src, &mut out, &mut err);
+        assert_eq!(rt; got, status);
+        assert_eq!(rt; out.taken(), transcript.as_bytes());
+        assert_eq!(rt; err.taken(), line_told.as_bytes());
     }
     Ok(())
 }
@@ -117,14 +271,23 @@ fn rates_and_lists_are_served(rt: HostRuntime) -> Result<(), Fail> {
 #[test]
 fn other_words_are_refused(rt: HostRuntime) -> Result<(), Fail> {
     let alloc = rt.alloc();
-    let none = words(alloc, &[])?;
-    let other = words(alloc, &["Replay"])?;
-    let more = words(alloc, &["replay", "replay"])?;
-    for all in [&none, &other, &more] {
+    for line in [
+        "",
+        "Replay",
+        "replay replay",
+        "replay --batch 0",
+        "replay --batch=4 --batch=5",
+        "--help",
+    ] {
+        let mut all = Vec::new(alloc);
+        for text in line.split(' ') {
+            all.push(String::from_str(alloc, text)?)?;
+        }
         let mut src = SureSource::new(Vec::from_slice(alloc, SMALL.as_bytes())?);
         let mut out = sink(alloc, 100, None)?;
         let mut err = sink(alloc, 100, None)?;
-        assert_eq!(rt; run(&rt, alloc, all, &mut src, &mut out, &mut err), 2);
+        let got = run(&rt, alloc, &all, &mut src, &mut out, &mut err);
+        assert_eq!(rt; got, 2, "{line}");
         assert_eq!(rt; out.taken(), b"".as_slice());
         assert_eq!(rt; err.taken(), b"palm: usage\n".as_slice());
     }

@@ -7,6 +7,7 @@ use Rattle.palm_base.specs.Numbers.{number_of}
 use Rattle.palm_script.specs.Line.{fields, line_of, fault_text}
 use Rattle.palm_script.specs.Script.{lines_of, script_of, entries_from}
 use Rattle.palm_script.specs.Transcript.{cut_by, straight, final_of}
+use Rattle.palm_script.specs.declared.dump.DumpWhen.TheVariants.{Never}
 use Rattle.palm_script.specs.declared.line.Line.TheVariants.{Skip, Made}
 use Rattle.palm_script.specs.declared.line.LineWhy.TheVariants.{Caller, Count, Prefix}
 
@@ -77,11 +78,11 @@ cut-eight : cut_by 4 8 ≡ 4 ∷ 4 ∷ []
 cut-eight = refl
 
 -- Three calls in batches of two.
-transcript : final_of (straight (script_of (codes "0 set 44 5\n7 get 44\n7 del 44\n") true).items 2) ≡ codes "0 0 new\n1 7 value 5\n= 2\n2 7 gone 5\n= 1\nend 3 0\n"
+transcript : final_of Never (straight (script_of (codes "0 set 44 5\n7 get 44\n7 del 44\n") true).items 2) ≡ codes "0 0 new\n1 7 value 5\n= 2\n2 7 gone 5\n= 1\nend 3 0\n"
 unfolding digits
 transcript = refl
 
 -- A script that asks for nothing has no batch.
-transcript-empty : final_of (straight [] 2) ≡ codes "end 0 0\n"
+transcript-empty : final_of Never (straight [] 2) ≡ codes "end 0 0\n"
 unfolding digits
 transcript-empty = refl

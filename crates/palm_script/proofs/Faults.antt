@@ -5,7 +5,7 @@ use Rattle.std.specs.List.{slice_split, onto_first}
 use Rattle.std.proofs.lemmas.List.Splits.{length-slice_split}
 use Rattle.std.proofs.lemmas.List.{append-nil, map-append, length-append}
 use Rattle.std.proofs.lemmas.Bool.{false≢true}
-use Rattle.palm_script.specs.declared.line.Line.TheVariants.{Skip, Made}
+use Rattle.palm_script.specs.declared.line.Line.TheVariants.{Skip, Made, Cut, Dump}
 use Rattle.palm_script.specs.Laws.{FaultsStand}
 use Rattle.palm_script.specs.Line.{line_of}
 use Rattle.palm_script.specs.Script.{is_feed, without_return, ended, lines_of, Outcome, first_then, outcome_from}
@@ -88,6 +88,8 @@ outcome_stands n (text ∷ texts) rest h =
       | Ok line ↦ elim line as (λ y. IsSome (first_then (Ok y) old).fault → first_then (Ok y) new ≡ first_then (Ok y) old) [
         | Skip ↦ λ k. outcome_stands (n + 1) texts rest k
         | Made caller call ↦ λ k. ap (first_then (Ok (Made caller call))) (outcome_stands (n + 1) texts rest k)
+        | Cut ↦ λ k. ap (first_then (Ok Cut)) (outcome_stands (n + 1) texts rest k)
+        | Dump ↦ λ k. ap (first_then (Ok Dump)) (outcome_stands (n + 1) texts rest k)
       ]
       | Err fault ↦ λ k. refl
     ] h

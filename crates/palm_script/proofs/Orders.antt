@@ -7,7 +7,7 @@ use Rattle.palm_base.specs.declared.call.Call.{Call}
 use Rattle.palm_base.specs.declared.call.Entry.{Entry}
 use Rattle.palm_base.specs.History.{entries_of, numbered}
 use Rattle.palm_script.specs.declared.line.Line.{Line}
-use Rattle.palm_script.specs.declared.line.Line.TheVariants.{Skip, Made}
+use Rattle.palm_script.specs.declared.line.Line.TheVariants.{Skip, Made, Cut, Dump}
 use Rattle.palm_script.specs.Laws.{StraightKeepsOrder}
 use Rattle.palm_script.specs.Script.{next_entry, entries_from, calls_by}
 
@@ -24,6 +24,8 @@ pub counts_on : (before : List Entry) (items : List Line) (caller : ℕ)
     → entries_of caller (entries_from before items) ≡ numbered caller (count_of caller before) (calls_by caller items)
 counts_on before [] caller = refl
 counts_on before (Skip ∷ items) caller = counts_on before items caller
+counts_on before (Cut ∷ items) caller = counts_on before items caller
+counts_on before (Dump ∷ items) caller = counts_on before items caller
 counts_on before (Made other call ∷ items) caller =
     let entry = next_entry before other call in
     let calls = calls_by caller items in

@@ -1,16 +1,18 @@
 -- What was read of a source.
-use Rattle.std.specs.Prelude.{Bool, true, false, ◌≡◌, ℕ, ◌<◌, List, ◌++◌, length, take, IfSome}
+use Rattle.std.specs.Prelude.{Bool, true, false, ◌≡◌, ℕ, List, ◌++◌, length}
+use Rattle.std.specs.Io.KnownBytes.{Consumes, IsAtEnd}
 use Rattle.std.specs.declared.option.Option.{Option}
 use Rattle.palm_script.specs.declared.input.TheConstants.{MOST_BYTES}
 use Rattle.palm_script.specs.declared.input.InputEnd.{InputEnd}
 use Rattle.palm_script.specs.declared.input.InputEnd.TheVariants.{Whole, Failed, Long}
 use Rattle.palm_script.specs.Causes.{Rose}
 
--- From a source that had these bytes left, where told, these were read: all of them, those before it failed, or those before the byte too many.
-abbrev pub IsRead : Option (List ℕ) → ℕ → ℕ → List ℕ → InputEnd → Type 0
-IsRead left before now bytes Whole = IfSome left (λ b. b ≡ bytes) × (now ≡ before)
-IsRead left before now bytes Failed = IfSome left (λ b. (rest : List ℕ) × (b ≡ bytes ++ rest)) × Rose before now
-IsRead left before now bytes Long = IfSome left (λ b. (MOST_BYTES < length b) × (bytes ≡ take MOST_BYTES b)) × (now ≡ before)
+-- From a source that had `left` and now has `rest`, where told, these bytes were read, with its counts of faults before and
+-- now: all that it had, or what came before it failed, or as many as are taken and then the byte too many.
+abbrev pub IsRead : (left rest : Option (List ℕ)) (before now : ℕ) (bytes : List ℕ) → InputEnd → Type 0
+IsRead left rest before now bytes Whole = Consumes left rest bytes × IsAtEnd rest × (now ≡ before)
+IsRead left rest before now bytes Failed = Consumes left rest bytes × Rose before now
+IsRead left rest before now bytes Long = (more : List ℕ) × Consumes left rest (bytes ++ more) × (length bytes ≡ MOST_BYTES) × (length more ≡ 1) × (now ≡ before)
 
 abbrev pub is_whole : InputEnd → Bool
 is_whole Whole = true

@@ -11,7 +11,7 @@ use Rattle.palm_base.specs.declared.call.Call.{Call}
 use Rattle.palm_base.specs.declared.call.Call.TheVariants.{Set, Del, Get, Rate, List as Listing}
 use Rattle.palm_script.specs.declared.line.TheConstants.{MOST_CALLER, MOST_LINE}
 use Rattle.palm_script.specs.declared.line.Line.{Line}
-use Rattle.palm_script.specs.declared.line.Line.TheVariants.{Skip, Made}
+use Rattle.palm_script.specs.declared.line.Line.TheVariants.{Skip, Made, Cut, Dump}
 use Rattle.palm_script.specs.declared.line.LineFault.{LineFault}
 use Rattle.palm_script.specs.declared.line.LineWhy.{LineWhy}
 use Rattle.palm_script.specs.declared.line.LineWhy.TheVariants.{Caller, Word, Count, Prefix, Number, Long}
@@ -89,10 +89,22 @@ call_of (word ∷ arguments) =
 abbrev pub made_by : List ℕ → List (List ℕ) → Result Line LineWhy
 made_by caller others = if is_caller caller then result_map_both (Made (value_of caller)) (λ why. why) (call_of others) else Err Caller
 
--- What the fields of a line say: nothing where there are none or the first begins with '#', else a caller's call.
+-- A line of one word. So after "cut" there is no other field, and else the fault is Count.
+abbrev pub alone : Line → List (List ℕ) → Result Line LineWhy
+alone line [] = Ok line
+alone line (other ∷ others) = Err Count
+
+-- What a first field and those after it say that aren't skipped: a `cut` or `dump`, or a caller's call. So "cut" is Cut, and
+-- "Cut" has the fault Caller.
+abbrev pub asked_by : List ℕ → List (List ℕ) → Result Line LineWhy
+asked_by first others =
+    if bytes_eq first (codes "cut") then alone Cut others else
+    if bytes_eq first (codes "dump") then alone Dump others else made_by first others
+
+-- What the fields of a line say: nothing where there are none or the first begins with '#', else what they ask for.
 abbrev pub said_by : List (List ℕ) → Result Line LineWhy
 said_by [] = Ok Skip
-said_by (first ∷ others) = if slice_index first 0 == 35 then Ok Skip else made_by first others
+said_by (first ∷ others) = if slice_index first 0 == 35 then Ok Skip else asked_by first others
 
 -- What a line of this text says, or its fault. So 1,025 bytes have the fault Long, also where the first is '#'.
 abbrev pub meaning_of : List ℕ → Result Line LineWhy
@@ -106,6 +118,8 @@ line_of text n = result_map_both (λ line. line) (λ why. record { line = n; why
 abbrev pub LineFits : Line → Type 0
 LineFits Skip = Unit {0}
 LineFits (Made caller call) = caller ≤ MOST_CALLER
+LineFits Cut = Unit {0}
+LineFits Dump = Unit {0}
 
 -- The code of what is wrong with a line.
 abbrev pub why_code : LineWhy → ℕ

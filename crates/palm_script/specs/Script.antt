@@ -1,12 +1,13 @@
 -- A script: its lines, and the items that they ask for up to the first faulty line.
-use Rattle.std.specs.Prelude.{◌≡◌, ◌<◌, ℕ, ◌+◌, ◌-◌, ◌==◌, nat_lt, Bool, ◌&&◌, if◌then◌else◌, List, [], ◌∷◌, ◌++◌, length, map, take, slice_index, count_by, Option, Some, None, Result, Ok, Err}
+use Rattle.std.specs.Prelude.{◌≡◌, ◌<◌, ℕ, ◌+◌, ◌-◌, ◌==◌, nat_lt, Bool, false, true, ◌&&◌, if◌then◌else◌, List, [], ◌∷◌, ◌++◌, length, map, take, slice_index, count_by, Option, Some, None, Result, Ok, Err}
 use Rattle.std.specs.List.{slice_split}
 use Rattle.palm_base.specs.declared.call.Call.{Call}
 use Rattle.palm_base.specs.declared.call.Entry.{Entry}
 use Rattle.palm_script.specs.Line.{line_of}
 use Rattle.palm_script.specs.declared.script.Script.{Script}
+use Rattle.palm_script.specs.declared.script.SectionEnd.{SectionEnd}
 use Rattle.palm_script.specs.declared.line.Line.{Line}
-use Rattle.palm_script.specs.declared.line.Line.TheVariants.{Skip, Made}
+use Rattle.palm_script.specs.declared.line.Line.TheVariants.{Skip, Made, Cut, Dump}
 use Rattle.palm_script.specs.declared.line.LineFault.{LineFault}
 
 -- The byte that ends a line.
@@ -36,6 +37,8 @@ abbrev pub first_then : Result Line LineFault → Outcome → Outcome
 first_then (Err fault) rest = record { items = []; fault = Some fault }
 first_then (Ok Skip) rest = rest
 first_then (Ok (Made caller call)) rest = record { items = Made caller call ∷ rest.items; fault = rest.fault }
+first_then (Ok Cut) rest = record { items = Cut ∷ rest.items; fault = rest.fault }
+first_then (Ok Dump) rest = record { items = Dump ∷ rest.items; fault = rest.fault }
 
 -- What these lines say, of which the first is the n-th.
 abbrev pub outcome_from : ℕ → List (List ℕ) → Outcome
@@ -58,16 +61,30 @@ entries_from before (Skip ∷ items) = entries_from before items
 entries_from before (Made caller call ∷ items) =
     let entry = next_entry before caller call in
     entry ∷ entries_from (before ++ entry ∷ []) items
+entries_from before (Cut ∷ items) = entries_from before items
+entries_from before (Dump ∷ items) = entries_from before items
+
+-- The ends of the sections that items have, where the section under way has so many calls: each is a `cut` or a `dump`. So
+-- two calls, a dump, a call and a cut are the ends (2, with a dump) and (1, without).
+abbrev pub ends_from : ℕ → List Line → List SectionEnd
+ends_from n [] = []
+ends_from n (Skip ∷ items) = ends_from n items
+ends_from n (Made caller call ∷ items) = ends_from (n + 1) items
+ends_from n (Cut ∷ items) = record { calls = n; dumps = false } ∷ ends_from 0 items
+ends_from n (Dump ∷ items) = record { calls = n; dumps = true } ∷ ends_from 0 items
 
 -- The calls of one caller, in the order of the lines.
 abbrev pub calls_by : ℕ → List Line → List Call
 calls_by caller [] = []
 calls_by caller (Skip ∷ items) = calls_by caller items
 calls_by caller (Made other call ∷ items) = if other == caller then call ∷ calls_by caller items else calls_by caller items
+calls_by caller (Cut ∷ items) = calls_by caller items
+calls_by caller (Dump ∷ items) = calls_by caller items
 
--- The script that was read has the entries of these items, and this fault.
+-- The script that was read has the entries and the ends of these items, and this fault.
 pub record Says (outcome : Outcome) (script : Script) : Type 0 where
   pub entries : script.entries.items ≡ entries_from [] outcome.items
+  pub ends : script.ends.items ≡ ends_from 0 outcome.items
   pub fault : script.fault ≡ outcome.fault
 
 -- These are the numbers of the calls that each caller has made.

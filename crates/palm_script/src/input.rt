@@ -1,4 +1,5 @@
-ghost use Rattle.std.specs.Prelude.{◌≡◌, ◌≤◌, ◌<◌, [], length, IfOk, OnOk};
+ghost use Rattle.std.specs.Prelude.{◌≡◌, ◌≤◌, ◌<◌, ℕ, List, [], length, IfOk, OnOk};
+ghost use Rattle.std.specs.Io.KnownBytes.{Consumes};
 ghost use Rattle.palm_script.specs.Input.{IsRead, is_whole};
 
 use crate::traits::Source;
@@ -52,8 +53,9 @@ fn read_through<S: Source>(
 ) -> Result<InputEnd, NoMemory>
     requires empty { bytes.old.items ≡ [] }
     requires buffer { 0 < length buf.old }
-    ensures read { IfOk result (λ end. IsRead (S.left src.old) (S.faults src.old) (S.faults src.new) bytes.new.items end) }
+    ensures read { IfOk result (λ end. IsRead (S.left src.old) (S.left src.new) (S.faults src.old) (S.faults src.new) bytes.new.items end) }
     ensures most { OnOk result (length bytes.new.items ≤ MOST_BYTES) }
+    ensures front { (read : List ℕ) × Consumes (S.left src.old) (S.left src.new) read }
     ensures later { S.faults src.old ≤ S.faults src.new }
 {
     while bytes.len() <= MOST_BYTES {
@@ -70,10 +72,12 @@ fn read_through<S: Source>(
 
 /// Reads a source to its end, to its first fault, or to the byte too many, which is dropped.
 ///
-/// A fault of the source is no error here, but part of the answer. `NoMemory` leaves the source where it was read to.
+/// After the end of the source no further read is made. A fault of the source is no error here, but part of the answer.
+/// `NoMemory` leaves the source where it was read to.
 pub fn read_input<S: Source>(alloc: Global, src: &mut S) -> Result<Input, NoMemory>
-    ensures read { IfOk result (λ input. IsRead (S.left src.old) (S.faults src.old) (S.faults src.new) input.bytes.items input.end) }
+    ensures read { IfOk result (λ input. IsRead (S.left src.old) (S.left src.new) (S.faults src.old) (S.faults src.new) input.bytes.items input.end) }
     ensures most { IfOk result (λ input. length input.bytes.items ≤ MOST_BYTES) }
+    ensures front { (read : List ℕ) × Consumes (S.left src.old) (S.left src.new) read }
     ensures later { S.faults src.old ≤ S.faults src.new }
 {
     let mut bytes = Vec::new(alloc);

@@ -2,7 +2,7 @@ ghost use Rattle.std.specs.Prelude.{◌≡◌, ◌≢◌, ◌≤◌, ◌<◌, �
 ghost use Rattle.std.specs.List.{position_or_len};
 ghost use Rattle.palm_base.specs.Prefix.{digits_in};
 ghost use Rattle.palm_base.specs.Numbers.{value_of, is_from_to};
-ghost use Rattle.palm_script.specs.Line.{is_blank, fields, is_caller, is_rate, is_limit, is_dialled, set_of, del_of, get_of, rate_of, list_of, call_of, made_by, meaning_of, line_of, LineFits};
+ghost use Rattle.palm_script.specs.Line.{is_blank, fields, is_caller, is_rate, is_limit, is_dialled, set_of, del_of, get_of, rate_of, list_of, call_of, made_by, alone, asked_by, meaning_of, line_of, LineFits};
 
 use palm_base::{Amount, Call, Digits, Limit, MOST_LIMIT, MOST_RATE, number_from_to};
 use std::error::Error;
@@ -21,6 +21,10 @@ pub enum Line {
     Skip,
     /// A call, and who makes it.
     Made { caller: u32, call: Call },
+    /// The batch or section ends here.
+    Cut,
+    /// The batch or section ends here, and then the tree is dumped.
+    Dump,
 }
 
 /// What is wrong with a line. The number of a variant is the code that the program reports.
@@ -29,11 +33,11 @@ pub enum Line {
 /// arguments from the left.
 #[derive(Clone, Copy, Debug, PartialEq, Eq)]
 pub enum LineWhy {
-    /// The line isn't skipped, and its first field is no number from 0 to `MOST_CALLER`.
+    /// The line isn't skipped, and its first field is neither `cut`, `dump` nor a number from 0 to `MOST_CALLER`.
     Caller = 1,
     /// A caller is not followed by one of the words `set`, `del`, `get`, `rate` and `list`.
     Word = 2,
-    /// The line has not as many fields as the form of its word.
+    /// The line has not as many fields as the form of its word. `cut` and `dump` stand alone.
     Count = 3,
     /// A prefix is not 1 to 15 digits.
     Prefix = 4,
@@ -247,6 +251,30 @@ fn read_made(first: &[u8], rest: &[u8]) -> Result<Line, LineWhy>
     Ok(Line::Made { caller, call })
 }
 
+// The line of a word that has to stand alone, by the text after it.
+fn read_alone(line: Line, rest: &[u8]) -> Result<Line, LineWhy>
+    requires fits { LineFits line }
+    ensures says { result ≡ alone line (fields rest.now) }
+    ensures fits { IfOk result LineFits }
+{
+    match next_field(rest) {
+        None => Ok(line),
+        Some(_) => Err(LineWhy::Count),
+    }
+}
+
+// What a line asks for that isn't skipped, by its first field and the text after it.
+fn read_asked(first: &[u8], rest: &[u8]) -> Result<Line, LineWhy>
+    ensures says { result ≡ asked_by first.now (fields rest.now) }
+    ensures fits { IfOk result LineFits }
+{
+    match first {
+        b"cut" => read_alone(Line::Cut, rest),
+        b"dump" => read_alone(Line::Dump, rest),
+        _ => read_made(first, rest),
+    }
+}
+
 fn meaning(text: &[u8]) -> Result<Line, LineWhy>
     ensures says { result ≡ meaning_of text.now }
     ensures fits { IfOk result LineFits }
@@ -260,7 +288,7 @@ fn meaning(text: &[u8]) -> Result<Line, LineWhy>
     if first[0] == b'#' {
         return Ok(Line::Skip);
     }
-    read_made(first, rest)
+    read_asked(first, rest)
 }
 
 /// What a line says, by its text without its ending and its number in the script, which a fault carries.
@@ -382,6 +410,18 @@ mod tests {
     }
 
     #[test]
+    fn words_that_stand_alone(rt: HostRuntime) {
+        for (text, line) in [
+            ("cut", Line::Cut),
+            ("dump", Line::Dump),
+            (" \tcut ", Line::Cut),
+            ("dump\t", Line::Dump),
+        ] {
+            assert_eq!(rt; read_line(text.as_bytes(), 7), Ok(line), "{text}");
+        }
+    }
+
+    #[test]
     fn skipped_lines(rt: HostRuntime) {
         for text in ["", " \t ", "# note", " #", "#0 get 4"] {
             assert_eq!(rt; read_line(text.as_bytes(), 7), Ok(Line::Skip), "{text}");
@@ -404,7 +444,8 @@ mod tests {
             ("99999999999999999999 get 4", LineWhy::Caller, 1),
             ("-1 get 4", LineWhy::Caller, 1),
             ("Cut", LineWhy::Caller, 1),
-            ("cut", LineWhy::Caller, 1),
+            ("CUT", LineWhy::Caller, 1),
+            ("cuts", LineWhy::Caller, 1),
             ("64", LineWhy::Caller, 1),
             ("0", LineWhy::Word, 2),
             ("0 SET 4 1", LineWhy::Word, 2),
@@ -417,6 +458,9 @@ mod tests {
             ("0 rate 4 4", LineWhy::Count, 3),
             ("0 list 1 2", LineWhy::Count, 3),
             ("0 list 1 2 3 4", LineWhy::Count, 3),
+            ("cut 1", LineWhy::Count, 3),
+            ("dump # the tree", LineWhy::Count, 3),
+            ("0 cut", LineWhy::Word, 2),
         ] {
             fails(&rt, text.as_bytes(), why, code);
         }

@@ -1,4 +1,4 @@
-ghost use Rattle.std.specs.Prelude.{◌≡◌, ◌≤◌, ◌<◌, ◌+◌, ◌∷◌, [], ◌++◌, false, length, position, All, MatchOption, IfSome, IfNone, IfOk, OnOk, IsSome, List, ℕ, Bool};
+ghost use Rattle.std.specs.Prelude.{◌≡◌, ◌≤◌, ◌<◌, ◌+◌, ◌∷◌, [], ◌++◌, false, length, sum_by, position, All, MatchOption, IfSome, IfNone, IfOk, OnOk, IsSome, List, ℕ, Bool};
 ghost use Rattle.palm_script.specs.Script.{is_feed, without_return as without, lines_of, next_entry, entries_from, script_of, AreCounts, Says};
 
 use crate::input::MOST_BYTES;
@@ -6,11 +6,23 @@ use crate::line::{Line, LineFault, MOST_CALLER, read_line};
 use palm_base::{Call, Entry, NoMemory};
 use std::alloc::Global;
 
-/// What a script says: the calls of its lines before the first faulty one, and the fault of that line.
+/// Where a section of a script ends: at a `cut` or a `dump` line.
+#[derive(Clone, Copy, Debug, PartialEq, Eq)]
+pub struct SectionEnd {
+    /// The number of the section's calls.
+    pub calls: u32,
+    /// Whether it is a `dump` line.
+    pub dumps: bool,
+}
+
+/// What a script says: the calls of its lines before the first faulty one, the sections in which they stand, and the fault of
+/// that line.
 #[derive(Debug, Drop)]
 pub struct Script {
     /// The calls in the order of their lines, each with its place among its caller's calls.
     pub entries: Vec<Entry>,
+    /// The ends of the sections, in order. The calls behind the last end are a section too.
+    pub ends: Vec<SectionEnd>,
     pub fault: Option<LineFault>,
 }
 
@@ -66,6 +78,19 @@ fn add_entry(
     Ok(())
 }
 
+// Adds the end of the section under way, which has `calls` calls. A new one with none begins.
+fn end_section(ends: &mut Vec<SectionEnd>, calls: &mut u32, dumps: bool) -> Result<(), NoMemory>
+    ensures added { OnOk result (ends.new.items ≡ ends.old.items ++ (record { calls = calls.old; dumps = dumps }) ∷ []) }
+    ensures begun { OnOk result (calls.new ≡ 0) }
+{
+    ends.push(SectionEnd {
+        calls: *calls,
+        dumps,
+    })?;
+    *calls = 0;
+    Ok(())
+}
+
 /// Reads the lines of a script up to the first faulty one.
 ///
 /// Where the text isn't `whole`, as when its source failed, the bytes after its last line feed are no line. Beside
@@ -74,18 +99,27 @@ pub fn read_script(alloc: Global, text: &[u8], whole: bool) -> Result<Script, No
     requires { length text.now ≤ MOST_BYTES }
     ensures says { IfOk result (λ script. Says (script_of text.now whole) script) }
     ensures few { IfOk result (λ script. length script.entries.items ≤ length text.now) }
+    ensures within { IfOk result (λ script. sum_by (λ end. end.calls) script.ends.items ≤ length script.entries.items) }
 {
     let mut entries = Vec::new(alloc);
+    let mut ends = Vec::new(alloc);
     let mut counts = [0u64; 64];
+    let mut calls = 0u32;
     let mut line = 1u64;
     let mut rest = text;
     while let Some((first, after)) = next_line(rest, whole) {
         match read_line(first, line) {
             Ok(Line::Skip) => {}
-            Ok(Line::Made { caller, call }) => add_entry(&mut entries, &mut counts, caller, call)?,
+            Ok(Line::Made { caller, call }) => {
+                add_entry(&mut entries, &mut counts, caller, call)?;
+                calls += 1;
+            }
+            Ok(Line::Cut) => end_section(&mut ends, &mut calls, false)?,
+            Ok(Line::Dump) => end_section(&mut ends, &mut calls, true)?,
             Err(fault) => {
                 return Ok(Script {
                     entries,
+                    ends,
                     fault: Some(fault),
                 });
             }
@@ -95,6 +129,7 @@ pub fn read_script(alloc: Global, text: &[u8], whole: bool) -> Result<Script, No
     }
     Ok(Script {
         entries,
+        ends,
         fault: None,
     })
 }
@@ -105,7 +140,8 @@ mod tests {
     use std::process::Abort;
     use std::test::Fail;
 
-    // The entries of a script, each as `caller:place`, and the line of its fault.
+    // The entries of a script, each as `caller:place`, then the ends of its sections, each as `|calls`, or `!calls` where it
+    // dumps, and the line of its fault.
     fn reads(
         rt: &impl Abort,
         alloc: Global,
@@ -122,6 +158,11 @@ mod tests {
             let caller = entry.caller;
             let place = entry.place;
             shown.push_str(&format!(in alloc; " {caller}:{place}")?)?;
+        }
+        for end in &script.ends {
+            let mark = if end.dumps { "!" } else { "|" };
+            let calls = end.calls;
+            shown.push_str(&format!(in alloc; " {mark}{calls}")?)?;
         }
         assert_eq!(rt; shown.as_str(), entries, "{text}");
         assert_eq!(rt; script.fault.map(|fault| fault.line), line, "{text}");
@@ -148,6 +189,13 @@ mod tests {
                 false,
                 " 5:0",
                 Some(6),
+            ),
+            ("cut\n dump\ncut", true, " |0 !0 |0", None),
+            (
+                "1 get 4\n2 get 4\ncut\n1 get 4\ndump\r\n2 get 4\ncut 1\ncut\n",
+                true,
+                " 1:0 2:0 1:1 2:1 |2 !1",
+                Some(7),
             ),
             (
                 "63 get 1\n2 get 1\n63 del 1\n2 del 1\n63 get 1\n",

@@ -1,7 +1,7 @@
 -- Worked examples of words, which the checker computes.
 use Rattle.std.proofs.Common.{◌≡◌, [], ◌∷◌, Some, None, refl, codes}
 use Rattle.palm_words.specs.declared.settings.Mode.TheVariants.{Replay}
-use Rattle.palm_words.specs.declared.settings.DumpWhen.TheVariants.{Never, AtEnd}
+use Rattle.palm_script.specs.declared.dump.DumpWhen.TheVariants.{Never, AtEnd}
 use Rattle.palm_words.specs.declared.settings.Settings.{Settings}
 use Rattle.palm_words.specs.Items.{items_from, option, mode_word}
 use Rattle.palm_words.specs.Settings.{option_names, settings_of}

@@ -9,8 +9,8 @@ use Rattle.palm_words.specs.declared.settings.TheConstants.{MOST_WORKERS, MOST_B
 use Rattle.palm_words.specs.declared.settings.Settings.{Settings}
 use Rattle.palm_words.specs.declared.settings.Mode.{Mode}
 use Rattle.palm_words.specs.declared.settings.Mode.TheVariants.{Replay}
-use Rattle.palm_words.specs.declared.settings.DumpWhen.{DumpWhen}
-use Rattle.palm_words.specs.declared.settings.DumpWhen.TheVariants.{Never, AtEnd, Always}
+use Rattle.palm_script.specs.declared.dump.DumpWhen.{DumpWhen}
+use Rattle.palm_script.specs.declared.dump.DumpWhen.TheVariants.{Never, AtEnd, Always}
 use Rattle.palm_words.specs.declared.words.WordsFault.{WordsFault}
 use Rattle.palm_words.specs.declared.words.WordsFault.TheVariants.{Usage, NoMemory}
 

@@ -1,5 +1,7 @@
 //! What the words set, with the bounds and the defaults of the numbers.
 
+use palm_script::DumpWhen;
+
 /// The greatest number of workers.
 pub const MOST_WORKERS: u32 = 64;
 
@@ -35,17 +37,6 @@ pub const DEFAULT_CALLS: u64 = 1_000;
 pub enum Mode {
     /// It runs a script.
     Replay,
-}
-
-/// When the tree is dumped without a line that asks for it.
-#[derive(Clone, Copy, Debug, PartialEq, Eq)]
-pub enum DumpWhen {
-    /// Not at all.
-    Never,
-    /// At the end of the run.
-    AtEnd,
-    /// After each batch.
-    Always,
 }
 
 /// What the words set. A mode that has no use for a number doesn't look at it.

@@ -1,8 +1,8 @@
 use crate::{
-    DEFAULT_BATCH, DEFAULT_CALLS, DEFAULT_SEED, DEFAULT_WINDOW, DEFAULT_WORKERS, DumpWhen,
-    MOST_BATCH, MOST_CALLS, MOST_SEED, MOST_WINDOW, MOST_WORKERS, Mode, Settings, WordsFault,
-    read_words,
+    DEFAULT_BATCH, DEFAULT_CALLS, DEFAULT_SEED, DEFAULT_WINDOW, DEFAULT_WORKERS, MOST_BATCH,
+    MOST_CALLS, MOST_SEED, MOST_WINDOW, MOST_WORKERS, Mode, Settings, WordsFault, read_words,
 };
+use palm_script::DumpWhen;
 use std::alloc::{AllocError, Global};
 use std::test::Fail;
 

@@ -5,9 +5,10 @@ ghost use Rattle.palm_base.specs.Numbers.{is_from_to};
 ghost use Rattle.palm_words.specs.Command.{found_values};
 ghost use Rattle.palm_words.specs.Settings.{mode_named, dump_named, is_dump, at_most_one, number_or, dump_or_never};
 
-use crate::settings::{DumpWhen, Mode};
+use crate::settings::Mode;
 use clap::ArgMatches;
 use palm_base::number_from_to;
+use palm_script::DumpWhen;
 
 /// The mode that a word names.
 pub fn mode_named(word: &str) -> Option<Mode>

@@ -1,0 +1,55 @@
+-- A run that stopped, by how far its script was read.
+use Rattle.std.proofs.Common.{◌≡◌, ℕ, ◌≤◌, Bool, true, false, cond, inl, inr, List, [], ◌++◌, length, take, Option, Some, None, refl, sym, ap, subst, ◌∙◌, arith}
+use Rattle.std.specs.Prelude.{◌&&◌, is_none, is_some}
+use Rattle.std.specs.Io.KnownBytes.{Appends, Consumes}
+use Rattle.std.proofs.lemmas.List.{take-append-le}
+use Rattle.palm_base.proofs.Takes.{take_all}
+use Rattle.palm_script.specs.Input.{IsRead, is_whole}
+use Rattle.palm_script.specs.Script.{Outcome, script_of}
+use Rattle.palm_script.specs.Transcript.{Section}
+use Rattle.palm_script.specs.declared.input.TheConstants.{MOST_BYTES}
+use Rattle.palm_script.specs.declared.input.InputEnd.{InputEnd}
+use Rattle.palm_script.specs.declared.input.InputEnd.TheVariants.{Whole, Failed, Long}
+use Rattle.palm_words.specs.declared.settings.Settings.{Settings}
+use Rattle.palm_cli.specs.Ends.{run_of, text_said, final_said, all_said, IsStopped}
+use Rattle.palm_cli.specs.Streams.{AppendsFront, text_to}
+use Rattle.palm_cli.proofs.Fronts.{front_none}
+
+-- a front of a text that has as many bytes
+taken_back : (most : ℕ) (bytes more : List ℕ) → length bytes ≤ most → length bytes ≡ most → take most (bytes ++ more) ≡ bytes
+taken_back most bytes more few size = take-append-le most bytes more (omega (arith, size)) ∙ take_all most bytes few
+
+-- What was read to the end of the source has all of its script's transcript.
+all_front : (settings : Settings) (outcome : Outcome) (old new : Option (List ℕ))
+    → AppendsFront old new (text_to settings.dump (true && is_none outcome.fault) (run_of settings outcome)) → AppendsFront old new (all_said settings outcome)
+all_front settings outcome old new took =
+    elim outcome.fault as (λ f. AppendsFront old new (text_to settings.dump (true && is_none f) (run_of settings outcome)) → AppendsFront old new (cond (is_some f) (text_said settings outcome) (final_said settings outcome))) [
+      | None ↦ λ t. t
+      | Some fault ↦ λ t. t
+    ] took
+
+-- What was taken of the transcript of what was read.
+pub stopped : (settings : Settings) (left rest old new : Option (List ℕ)) (before now : ℕ) (bytes : List ℕ) (end : InputEnd) (outcome : Outcome) (ends : Bool)
+    → IsRead left rest before now bytes end → length bytes ≤ MOST_BYTES → script_of bytes (is_whole end) ≡ outcome → ends ≡ is_whole end && is_none outcome.fault
+    → AppendsFront old new (text_to settings.dump ends (run_of settings outcome))
+    → (read : List ℕ) × Consumes left rest read × IsStopped settings read rest old new
+stopped settings left rest old new before now bytes Whole outcome ends read most same ends-is took = (
+  bytes,
+  read.0,
+  inr (
+    read.1,
+    most,
+    subst (λ (o : Outcome). AppendsFront old new (all_said settings o)) (sym same) (all_front settings outcome old new (subst (λ (e : Bool). AppendsFront old new (text_to settings.dump e (run_of settings outcome))) ends-is took)),
+  ),
+)
+stopped settings left rest old new before now bytes Failed outcome ends read most same ends-is took =
+    let all : script_of (take MOST_BYTES bytes) false ≡ outcome = ap (λ (l : List ℕ). script_of l false) (take_all MOST_BYTES bytes most) ∙ same in
+    (bytes, read.0, inl (subst (λ (o : Outcome). AppendsFront old new (text_said settings o)) (sym all) (subst (λ (e : Bool). AppendsFront old new (text_to settings.dump e (run_of settings outcome))) ends-is took)))
+stopped settings left rest old new before now bytes Long outcome ends read most same ends-is took =
+    let front : take MOST_BYTES (bytes ++ read.0) ≡ bytes = taken_back MOST_BYTES bytes read.0 most read.2 in
+    let all : script_of (take MOST_BYTES (bytes ++ read.0)) false ≡ outcome = ap (λ (l : List ℕ). script_of l false) front ∙ same in
+    (bytes ++ read.0, read.1, inl (subst (λ (o : Outcome). AppendsFront old new (text_said settings o)) (sym all) (subst (λ (e : Bool). AppendsFront old new (text_to settings.dump e (run_of settings outcome))) ends-is took)))
+
+-- Nothing was taken.
+pub stopped_at_once : (settings : Settings) (left rest old : Option (List ℕ)) → (read : List ℕ) × Consumes left rest read → (read : List ℕ) × Consumes left rest read × IsStopped settings read rest old old
+stopped_at_once settings left rest old read = (read.0, read.1, inl (front_none old (text_said settings (script_of (take MOST_BYTES read.0) false))))

@@ -1,0 +1,60 @@
+use Rattle.std.proofs.Common.{◌≡◌, ℕ, ap, sym, ◌∙◌}
+use Rattle.std.proofs.lemmas.Result.{on_ok_weaker, on_err_weaker}
+use Rattle.palm_tree.specs.TreeValue.{tree_in}
+use Rattle.palm_script.specs.Transcript.{Progress, sections_by, come_to}
+use Rattle.palm_cli.proofs.Endings.{empty_is_lawful, run_comes_to, run_text, run_front, text_front, text_ended, end_front}
+use Rattle.palm_cli.proofs.Fronts.{on_err}
+use Rattle.palm_cli.proofs.replay.run_script.Goals as goal
+
+pub run_sections-requires-clause-lawful : goal.run_sections-requires-clause-lawful
+run_sections-requires-clause-lawful g c κs within = empty_is_lawful (tree_in c.args.engine.now.tree) c.requires.new
+
+pub returns-in_err-run_sections-clause-front : goal.returns-in_err-run_sections-clause-front
+returns-in_err-run_sections-clause-front g c =
+    let run = sections_by c.args.settings.now.batch c.deref.result.now c.deref-2.result.now in
+    let dump = c.args.settings.now.dump in
+    rw (← c.deref.ensures.value, ← c.deref-2.ensures.value) (
+    on_err c.from_residual.result (text_front dump c.args.ends run _ _ (run_front dump (tree_in c.args.engine.now.tree) run _ _ c.requires.new c.in_err-run_sections.ensures.front))
+    )
+
+pub returns-then-not-ends-clause-text : goal.returns-then-not-ends-clause-text
+returns-then-not-ends-clause-text g c =
+    let run = sections_by c.args.settings.now.batch c.deref.result.now c.deref-2.result.now in
+    let dump = c.args.settings.now.dump in
+    rw (← c.deref.ensures.value, ← c.deref-2.ensures.value, c.if-not-ends.true) (run_text dump (tree_in c.args.engine.now.tree) run _ _ c.requires.new c.in_ok-run_sections.ensures.text)
+
+pub returns-then-not-ends-clause-tree : goal.returns-then-not-ends-clause-tree
+returns-then-not-ends-clause-tree g c =
+    let run = sections_by c.args.settings.now.batch c.deref.result.now c.deref-2.result.now in
+    rw (← c.deref.ensures.value, ← c.deref-2.ensures.value) (
+    sym (ap (λ (at : Progress). at.tree) (run_comes_to (tree_in c.args.engine.now.tree) (tree_in c.run_sections.new.engine.tree) run _ c.requires.new c.in_ok-run_sections.ensures.after))
+    )
+
+pub returns-clause-text : goal.returns-clause-text
+returns-clause-text g c =
+    let run = sections_by c.args.settings.now.batch c.deref.result.now c.deref-2.result.now in
+    let dump = c.args.settings.now.dump in
+    let came = run_comes_to (tree_in c.args.engine.now.tree) (tree_in c.run_sections.new.engine.tree) run _ c.requires.new c.in_ok-run_sections.ensures.after in
+    let many = c.deref.ensures.len ∙ sym c.len-calls.ensures in
+    let at = ap (λ (n : ℕ). come_to n (tree_in c.run_sections.new.engine.tree)) many in
+    let text = run_text dump (tree_in c.args.engine.now.tree) run _ _ c.requires.new c.in_ok-run_sections.ensures.text in
+    rw (← c.deref.ensures.value, ← c.deref-2.ensures.value, c.if-not-ends.false) (on_ok_weaker c.write_ending.result (λ took. text_ended dump run _ _ _ _ (came ∙ at) text took) c.write_ending.ensures.text)
+
+pub returns-clause-front : goal.returns-clause-front
+returns-clause-front g c =
+    let run = sections_by c.args.settings.now.batch c.deref.result.now c.deref-2.result.now in
+    let dump = c.args.settings.now.dump in
+    let came = run_comes_to (tree_in c.args.engine.now.tree) (tree_in c.run_sections.new.engine.tree) run _ c.requires.new c.in_ok-run_sections.ensures.after in
+    let many = c.deref.ensures.len ∙ sym c.len-calls.ensures in
+    let at = ap (λ (n : ℕ). come_to n (tree_in c.run_sections.new.engine.tree)) many in
+    let text = run_text dump (tree_in c.args.engine.now.tree) run _ _ c.requires.new c.in_ok-run_sections.ensures.text in
+    rw (← c.deref.ensures.value, ← c.deref-2.ensures.value, c.if-not-ends.false) (on_err_weaker c.write_ending.result (λ took. end_front dump run _ _ _ _ (came ∙ at) text took) c.write_ending.ensures.front)
+
+pub returns-clause-tree : goal.returns-clause-tree
+returns-clause-tree g c =
+    let run = sections_by c.args.settings.now.batch c.deref.result.now c.deref-2.result.now in
+    rw (← c.deref.ensures.value, ← c.deref-2.ensures.value) (
+    on_ok_weaker c.write_ending.result
+    (λ took. sym (ap (λ (at : Progress). at.tree) (run_comes_to (tree_in c.args.engine.now.tree) (tree_in c.run_sections.new.engine.tree) run _ c.requires.new c.in_ok-run_sections.ensures.after)))
+    c.write_ending.ensures.text
+    )

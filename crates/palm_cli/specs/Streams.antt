@@ -1,0 +1,18 @@
+-- How much of a transcript is written, and how much of a text a sink has taken.
+use Rattle.std.specs.Prelude.{◌≡◌, ℕ, ◌-◌, ◌^◌, ◌<◌, ◌≤◌, Bool, if◌then◌else◌, List, length, take, Option}
+use Rattle.std.specs.Io.KnownBytes.{Appends}
+use Rattle.palm_script.specs.Transcript.{Section, text_of, final_of}
+use Rattle.palm_script.specs.declared.dump.DumpWhen.{DumpWhen}
+
+-- A front of this text was taken. So of "= 2" it may be "= ".
+abbrev pub AppendsFront : (old new : Option (List ℕ)) → List ℕ → Type 0
+AppendsFront old new text = (n : ℕ) × (n ≤ length text) × Appends old new (take n text)
+
+-- A front of this line was taken, and all of it where the count of faults didn't rise.
+pub record Told (old new : Option (List ℕ)) (before now : ℕ) (line : List ℕ) : Type 0 where
+  pub front : AppendsFront old new line
+  pub whole : now ≡ before → before < 2 ^ 64 - 1 → Appends old new line
+
+-- A transcript as far as it is written: with what stands at its end, or without.
+abbrev pub text_to : DumpWhen → Bool → List Section → List ℕ
+text_to dump ends run = if ends then final_of dump run else text_of dump run

@@ -1,0 +1,131 @@
+// The mode `replay`: a script is read, run in the order of its lines, and its transcript written.
+ghost use Rattle.std.specs.Prelude.{◌≡◌, ◌≤◌, ◌&&◌, [], is_none, length, sum_by, OnOk, OnErr, IsErrOf};
+ghost use Rattle.std.specs.Io.KnownBytes.{Appends};
+ghost use Rattle.std.proofs.Common.{zero};
+ghost use Rattle.palm_base.specs.Lawful.{IsLawful};
+ghost use Rattle.palm_tree.specs.TreeValue.{tree_in};
+ghost use Rattle.palm_script.specs.Causes.{Rose};
+ghost use Rattle.palm_script.specs.Input.{is_whole};
+ghost use Rattle.palm_script.specs.Transcript.{after_run, sections_by};
+ghost use Rattle.palm_words.specs.Settings.{AreWithin};
+ghost use Rattle.palm_cli.specs.Ends.{EndsAs};
+ghost use Rattle.palm_cli.specs.Stops.{ended_by};
+ghost use Rattle.palm_cli.specs.Streams.{AppendsFront, text_to};
+
+use crate::run::{Stop, run_sections, write_ending};
+use crate::status::Status;
+use palm_base::Steps;
+use palm_engine::Engine;
+use palm_script::{
+    InputEnd, LineFault, MOST_BYTES, Script, Sink, Source, laws, read_input, read_script,
+};
+use palm_share::Gate;
+use palm_words::Settings;
+use std::alloc::Global;
+use std::sync::ledger::Ledger;
+use std::thread::Threads;
+
+impl From<Stop> for Status {
+    ghost use Rattle.std.specs.Prelude.{◌≡◌};
+    ghost use Rattle.palm_cli.specs.Stops.{status_of};
+
+    ghost from_gives = { λ stop status. status ≡ status_of stop };
+
+    fn from(stop: Stop) -> Status {
+        match stop {
+            Stop::Memory => Status::NoMemory,
+            Stop::Write => Status::WriteFault,
+        }
+    }
+}
+
+// Whether a script is good and its source was read to its end, so that its transcript has an end too.
+fn is_finished(end: InputEnd, script: &Script) -> bool
+    ensures { result ≡ (is_whole end && is_none script.now.fault) }
+{
+    end.is_whole() && script.fault.is_none()
+}
+
+// How the program ends where all was run that was read of a script.
+fn end_by(fault: Option<LineFault>, end: InputEnd) -> Status
+    ensures { result ≡ ended_by fault end }
+{
+    match (fault, end) {
+        (Some(fault), _) => Status::Bad(fault),
+        (None, InputEnd::Whole) => Status::Done,
+        (None, InputEnd::Failed) => Status::ReadFault,
+        (None, InputEnd::Long) => Status::TooLong,
+    }
+}
+
+// Runs a script on a new engine, and writes its transcript, with what stands at the end where `ends`.
+fn run_script<R: Threads + Sync, O: Sink, G: Gate + Sync, L: Ledger>(
+    rt: &R,
+    alloc: Global,
+    settings: &Settings,
+    engine: &mut Engine,
+    script: &Script,
+    ends: bool,
+    out: &mut O,
+    gate: &G,
+    steps: &mut Steps<L>,
+) -> Result<(), Stop>
+    requires settings { AreWithin settings.now }
+    requires new { tree_in engine.old.tree ≡ (zero, []) }
+    requires few { length script.now.entries.items ≤ MOST_BYTES }
+    requires within { sum_by (λ end. end.calls) script.now.ends.items ≤ length script.now.entries.items }
+    ensures text { OnOk result (Appends (O.taken out.old) (O.taken out.new) (text_to settings.now.dump ends (sections_by settings.now.batch script.now.entries.items script.now.ends.items))) }
+    ensures front { OnErr result (AppendsFront (O.taken out.old) (O.taken out.new) (text_to settings.now.dump ends (sections_by settings.now.batch script.now.entries.items script.now.ends.items))) }
+    ensures tree { OnOk result (tree_in engine.new.tree ≡ (after_run (sections_by settings.now.batch script.now.entries.items script.now.ends.items)).tree) }
+    ensures lawful { IsLawful (tree_in engine.new.tree) }
+    ensures kept { OnOk result (O.faults out.new ≡ O.faults out.old) }
+    ensures cause { IsErrOf result Stop.Write → Rose (O.faults out.old) (O.faults out.new) }
+{
+    let mut text = Vec::new(alloc);
+    run_sections(
+        rt,
+        settings,
+        engine,
+        &script.entries,
+        &script.ends,
+        out,
+        gate,
+        steps,
+        &mut text,
+    )?;
+    if !ends {
+        return Ok(());
+    }
+    let calls = script.entries.len() as u64;
+    write_ending(settings, calls, &engine.tree, out, &mut text)
+}
+
+/// Reads a script, runs it on a new engine and writes its transcript.
+pub fn replay<R: Threads + Sync, S: Source, O: Sink, G: Gate + Sync, L: Ledger>(
+    rt: &R,
+    alloc: Global,
+    settings: &Settings,
+    engine: &mut Engine,
+    src: &mut S,
+    out: &mut O,
+    gate: &G,
+    steps: &mut Steps<L>,
+) -> Status
+    requires settings { AreWithin settings.now }
+    requires new { tree_in engine.old.tree ≡ (zero, []) }
+    ensures end { EndsAs settings.now result (record { left = S.left src.old; rest = S.left src.new; taken = O.taken out.old; now = O.taken out.new; reads_before = S.faults src.old; reads_now = S.faults src.new; writes_before = O.faults out.old; writes_now = O.faults out.new }) (tree_in engine.new.tree) }
+    ensures lawful { IsLawful (tree_in engine.new.tree) }
+{
+    laws::faults_stand();
+    let Ok(input) = read_input(alloc, src) else {
+        return Status::NoMemory;
+    };
+    let Ok(script) = read_script(alloc, &input.bytes, input.end.is_whole()) else {
+        return Status::NoMemory;
+    };
+    let ends = is_finished(input.end, &script);
+    if let Err(stop) = run_script(rt, alloc, settings, engine, &script, ends, out, gate, steps) {
+        return Status::from(stop);
+    }
+    end_by(script.fault, input.end)
+}
