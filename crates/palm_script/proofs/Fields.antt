@@ -1,10 +1,10 @@
 -- The first field of a text, and the place at which it ends.
-use Rattle.std.proofs.Common.{◌≡◌, ℕ, suc, ◌+◌, ◌-◌, ◌<◌, ◌≤◌, Bool, true, false, not, cond, ltb, List, [], ◌∷◌, length, take, drop, get_or, All, Some, None, refl, sym, ap, ◌∙◌, arith}
+use Rattle.std.proofs.Common.{◌≡◌, ℕ, suc, ◌+◌, ◌-◌, ◌<◌, ◌≤◌, Bool, true, false, not, cond, ltb, List, [], ◌∷◌, ◌++◌, length, take, drop, get_or, All, Some, None, refl, sym, ap, ◌∙◌, arith}
 use Rattle.std.specs.List.{position, position_or_len, slice_split, filter}
 use Rattle.std.specs.Option.{unwrap_or}
 use Rattle.std.proofs.lemmas.Bool.{ltb-true, ltb-false, lt-ltb}
 use Rattle.std.proofs.lemmas.List.Sums.{prefix_len-le-length, prefix_len-drop_yes, passes_at_first, fails_before_first}
-use Rattle.std.proofs.lemmas.List.Splits.{slice_split_first, slice_split_none}
+use Rattle.std.proofs.lemmas.List.Splits.{slice_split_first, slice_split_none, slice_split_at}
 use Rattle.std.proofs.lemmas.List.{drop_all, take_all, take_rest, at_drop_more, length-take}
 use Rattle.palm_script.specs.Line.{is_blank, fields}
 
@@ -48,13 +48,19 @@ up_to_blank bs n n-is some lt =
     let rest : fields (drop n bs) ≡ fields (drop (n + 1) bs) = at_drop_more fields bs n 0 lt ∙ past_blank (get_or bs n 0) (drop (n + 1) bs) blank in
     ap (filter (λ part. ltb 0 (length part))) parts ∙ rw long (ap (λ l. take n bs ∷ l) (sym rest))
 
+-- a text without blanks is one field
+pub one_field : (bs : List ℕ) → 0 < length bs → All (λ b. is_blank b ≡ false) bs → fields bs ≡ bs ∷ []
+one_field bs some solid = ap (filter (λ part. ltb 0 (length part))) (slice_split_none is_blank bs solid) ∙ rw (lt-ltb 0 (length bs) some) refl
+
+-- and with a blank behind it the first of several
+pub field_before : (bs : List ℕ) (blank : ℕ) (rest : List ℕ) → 0 < length bs → All (λ b. is_blank b ≡ false) bs → is_blank blank ≡ true → fields (bs ++ blank ∷ rest) ≡ bs ∷ fields rest
+field_before bs blank rest some solid e = ap (filter (λ part. ltb 0 (length part))) (slice_split_at is_blank bs blank rest solid e) ∙ rw (lt-ltb 0 (length bs) some) refl
+
 -- or to the end
 up_to_end : (bs : List ℕ) (n : ℕ) → n ≡ position_or_len is_blank bs → 0 < n → length bs ≤ n → fields bs ≡ take n bs ∷ fields (drop n bs)
 up_to_end bs n n-is some le =
     let none : All (λ b. is_blank b ≡ false) bs = λ k d lt. fails_before_first is_blank bs k d (omega (arith, n-is, le, lt)) in
-    let long : ltb 0 (length bs) ≡ true = lt-ltb 0 (length bs) (omega (arith, n-is, some, prefix_len-le-length (λ b. not (is_blank b)) bs)) in
-    let one : fields bs ≡ bs ∷ [] = ap (filter (λ part. ltb 0 (length part))) (slice_split_none is_blank bs none) ∙ rw long refl in
-    rw (take_all n bs le, drop_all n bs le) one
+    rw (take_all n bs le, drop_all n bs le) (one_field bs (omega (arith, n-is, some, prefix_len-le-length (λ b. not (is_blank b)) bs)) none)
 
 first_field : (bs : List ℕ) (n : ℕ) → n ≡ position_or_len is_blank bs → 0 < n → fields bs ≡ take n bs ∷ fields (drop n bs)
 first_field bs n n-is some =

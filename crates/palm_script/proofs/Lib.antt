@@ -4,5 +4,7 @@ pub mod Faults
 pub mod Fields
 pub mod Judged
 pub mod Lines
+pub mod Numerals
 pub mod Orders
+pub mod Spelled
 pub mod Streams

@@ -1,15 +1,21 @@
 -- The laws of scripts and runs, which the functions of the module of laws carry.
-use Rattle.std.specs.Prelude.{◌≡◌, ◌≤◌, ℕ, Bool, false, List, [], ◌++◌, length, IsSome}
+use Rattle.std.specs.Prelude.{◌≡◌, ◌≤◌, ℕ, Bool, false, List, [], ◌++◌, length, IsSome, Ok}
 use Rattle.std.specs.List.{AllByRecursion}
 use Rattle.palm_base.specs.History.{entries_of, numbered, IsCutting}
 use Rattle.palm_base.specs.declared.call.Entry.{Entry}
+use Rattle.palm_script.specs.Line.{line_of}
 use Rattle.palm_script.specs.Script.{script_of, entries_from, calls_by}
+use Rattle.palm_script.specs.Spelling.{plain_text, IsSayable}
 use Rattle.palm_script.specs.Transcript.{cut_by}
 use Rattle.palm_script.specs.declared.line.Line.{Line}
 
 -- Where the lines of a text hold a faulty one, every longer text says the same.
 abbrev pub FaultsStand : Type 0
 FaultsStand = (text more : List ℕ) (whole : Bool) → IsSome (script_of text false).fault → script_of (text ++ more) whole ≡ script_of text false
+
+-- The plain spelling of a line that a script can say reads as that line, whatever its number in the script.
+abbrev pub LinesReadBack : Type 0
+LinesReadBack = (line : Line) (n : ℕ) → IsSayable line → line_of (plain_text line) n ≡ Ok line
 
 -- A caller's entries are its calls, in the order of the lines, numbered from 0.
 abbrev pub StraightKeepsOrder : Type 0

@@ -4,4 +4,5 @@ pub mod Laws
 pub mod Line
 pub mod MemoryForms
 pub mod Script
+pub mod Spelling
 pub mod Transcript

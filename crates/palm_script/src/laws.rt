@@ -1,6 +1,11 @@
 //! Laws of the definitions of scripts and runs. Each function has an empty body: its contract is the law.
 
-ghost use Rattle.palm_script.specs.Laws.{FaultsStand, StraightKeepsOrder, CutByCuts};
+ghost use Rattle.palm_script.specs.Laws.{LinesReadBack, FaultsStand, StraightKeepsOrder, CutByCuts};
+
+/// What `print_line` prints, without the line feed, reads as the line that was printed, at each place in a script.
+pub fn lines_read_back()
+    ensures { LinesReadBack }
+{}
 
 /// A faulty line stays the first one whatever follows it in the script.
 pub fn faults_stand()

@@ -9,6 +9,7 @@ mod memory;
 mod output;
 mod print;
 mod script;
+mod spelling;
 mod standard;
 #[cfg(test)]
 mod tests;
@@ -21,5 +22,6 @@ pub use memory::{MemSink, MemSource, NullSink, SureSource};
 pub use output::write_all;
 pub use print::{print_batch, print_end, print_reply};
 pub use script::{Script, SectionEnd, read_script};
+pub use spelling::print_line;
 pub use standard::{StdSink, StdSource};
 pub use traits::{Failed, Sink, Source};

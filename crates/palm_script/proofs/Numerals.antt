@@ -1,0 +1,104 @@
+-- Digits of prefixes, and numbers in decimal, as texts: fields of digits that read as what they spell.
+use Rattle.std.proofs.Common.{◌≡◌, ℕ, ◌+◌, ◌-◌, ◌<◌, ◌≤◌, ◌^◌, ◌&&◌, Bool, true, false, not, cond, eqb, ltb, leb, List, [], ◌∷◌, length, map, take, get_or, All, Some, None, Ok, Err, refl, ap, ◌∙◌, arith, rules}
+use Rattle.std.specs.List.{list_all, position, position_or_len, AllByRecursion}
+use Rattle.std.specs.Fmt.{decimal}
+use Rattle.std.specs.Int.Digits.{number_from_digits_after}
+use Rattle.std.proofs.lemmas.Bool.{and_parts, lt-ltb, le-leb, le-ltb, ne_eqb}
+use Rattle.std.proofs.lemmas.Fmt.{digits_decimal, digits_value-decimal, length-decimal-le, decimal_nonempty}
+use Rattle.std.proofs.lemmas.List.{take_all, length-map}
+use Rattle.std.proofs.lemmas.List.Sums.{AllPass-from_list_all}
+use Rattle.std.proofs.lemmas.Str.Parse.{IsNumeralModel, numerals_by_fold}
+use Rattle.palm_base.specs.declared.digits.DigitsFault.TheVariants.{Empty, Long}
+use Rattle.palm_base.specs.Numbers.{value_of, is_number, is_from_to}
+use Rattle.palm_base.specs.Prefix.{AreDigits, IsPrefix, is_no_digit, digits_in, read_of, read_at}
+use Rattle.palm_base.specs.Text.{digits_text}
+use Rattle.palm_script.specs.Line.{is_blank}
+
+-- each byte of a text is a digit
+abbrev all_digits : List ℕ → Bool
+all_digits text = list_all (λ b. not (is_no_digit b)) text
+
+-- a text of one digit or more
+pub record IsDigitText (text : List ℕ) : Type 0 where
+  pub some : 0 < length text
+  pub digits : all_digits text ≡ true
+
+byte_no_blank : (b : ℕ) → not (is_no_digit b) ≡ true → is_blank b ≡ false
+byte_no_blank b h = grind arith
+
+-- it holds no blank
+pub no_blank : (text : List ℕ) → IsDigitText text → All (λ b. is_blank b ≡ false) text
+no_blank text h k d lt = byte_no_blank (get_or text k d) (AllPass-from_list_all (λ b. not (is_no_digit b)) text h.digits k d lt)
+
+byte_differs : (b other : ℕ) → not (is_no_digit b) ≡ true → is_no_digit other ≡ true → eqb b other ≡ false
+byte_differs b other h k = grind arith
+
+-- it begins with no other byte
+pub other_first : (b other : ℕ) (bs : List ℕ) → IsDigitText (b ∷ bs) → is_no_digit other ≡ true → eqb b other ≡ false
+other_first b other bs h k = byte_differs b other (and_parts (not (is_no_digit b)) (all_digits bs) h.digits).0 k
+
+-- ---- numbers in decimal
+
+own : IsNumeralModel (λ text. all_digits text ≡ true) value_of
+own = numerals_by_fold _ (search rules) (λ n text. number_from_digits_after 10 n (digits_in text)) (search rules)
+
+pub decimal_text : (n : ℕ) → n < 2 ^ 64 → IsDigitText (decimal n)
+decimal_text n small = record { some = decimal_nonempty n small; digits = digits_decimal own n small }
+
+pub value_of-decimal : (n : ℕ) → n < 2 ^ 64 → value_of (decimal n) ≡ n
+value_of-decimal n small = digits_value-decimal own n small
+
+pub length-decimal : (n : ℕ) → n < 2 ^ 64 → length (decimal n) ≤ 20
+length-decimal n small = length-decimal-le 20 n (omega arith) (omega arith) small
+
+is_number-decimal : (n : ℕ) → n < 2 ^ 64 → is_number (decimal n) ≡ true
+is_number-decimal n small =
+    let some : ltb 0 (length (decimal n)) ≡ true = lt-ltb 0 (length (decimal n)) (decimal_nonempty n small) in
+    let few : leb (length (decimal n)) 20 ≡ true = le-leb (length (decimal n)) 20 (length-decimal n small) in
+    rw (some, few) (digits_decimal own n small)
+
+pub is_from_to-decimal : (least most n : ℕ) → n < 2 ^ 64 → least ≤ n → n ≤ most → is_from_to least most (decimal n) ≡ true
+is_from_to-decimal least most n small low high =
+    let above : leb least n ≡ true = le-leb least n low in
+    let below : leb n most ≡ true = le-leb n most high in
+    rw (is_number-decimal n small, value_of-decimal n small, above, below) refl
+
+-- ---- digits of prefixes
+
+byte_is : (d : ℕ) → d < 10 → is_no_digit (d + 48) ≡ false
+byte_is d h = grind arith
+
+all_spelled : (ds : List ℕ) → AreDigits ds → all_digits (digits_text ds) ≡ true
+all_spelled [] h = refl
+all_spelled (d ∷ ds) h = rw (byte_is d h.0) (all_spelled ds h.1)
+
+pub length-digits_text : (ds : List ℕ) → length (digits_text ds) ≡ length ds
+length-digits_text ds = length-map ds (λ d. d + 48)
+
+pub prefix_text : (ds : List ℕ) → IsPrefix ds → IsDigitText (digits_text ds)
+prefix_text ds h = record { some = omega (arith, length-digits_text ds, h.some); digits = all_spelled ds h.small }
+
+pub digits_in-digits_text : (ds : List ℕ) → digits_in (digits_text ds) ≡ ds
+digits_in-digits_text [] = refl
+digits_in-digits_text (d ∷ ds) = (λ i. one i ∷ digits_in-digits_text ds i)
+  where
+    one : (d + 48) - 48 ≡ d
+    one = omega arith
+
+-- in a text of digits no other byte stands
+no_other : (text : List ℕ) → all_digits text ≡ true → position_or_len is_no_digit text ≡ length text
+no_other [] h = refl
+no_other (b ∷ text) h =
+    let parts = and_parts (not (is_no_digit b)) (all_digits text) h in
+    rw parts.0 (omega (arith, no_other text parts.1))
+
+pub read_of-digits_text : (ds : List ℕ) → IsPrefix ds → read_of (digits_text ds) ≡ Ok ds
+read_of-digits_text ds h =
+    let text : List ℕ = digits_text ds in
+    let size : length text ≡ length ds = length-digits_text ds in
+    let whole : take 15 text ≡ text = take_all 15 text (omega (arith, size, h.few)) in
+    let none : position is_no_digit (take 15 text) ≡ None =
+    ap (position is_no_digit) whole ∙ ap (λ k. cond (ltb k (length text)) (Some k) None) (no_other text (all_spelled ds h.small)) ∙ ap (λ b. cond b (Some (length text)) None) (le-ltb (length text) (length text) (omega arith)) in
+    ap (λ b. cond b (Err Empty) (read_at (position is_no_digit (take 15 text)) text)) (ne_eqb (length text) 0 (λ e. omega (arith, size, h.some)))
+    ∙ ap (λ o. read_at o text) none ∙ ap (λ b. cond b (Err Long) (Ok (digits_in text))) (le-ltb 15 (length text) (omega (arith, size, h.few)))
+    ∙ ap (λ (l : List ℕ). Ok l) (digits_in-digits_text ds)
