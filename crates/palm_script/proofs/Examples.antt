@@ -6,9 +6,10 @@ use Rattle.palm_base.specs.declared.call.Call.TheVariants.{Set, Get, List as Lis
 use Rattle.palm_base.specs.Numbers.{number_of}
 use Rattle.palm_script.specs.Line.{fields, line_of, fault_text}
 use Rattle.palm_script.specs.Script.{lines_of, script_of, entries_from}
+use Rattle.palm_script.specs.Spelling.{plain_text, line_text}
 use Rattle.palm_script.specs.Transcript.{cut_by, straight, final_of}
 use Rattle.palm_script.specs.declared.dump.DumpWhen.TheVariants.{Never}
-use Rattle.palm_script.specs.declared.line.Line.TheVariants.{Skip, Made}
+use Rattle.palm_script.specs.declared.line.Line.TheVariants.{Skip, Made, Cut}
 use Rattle.palm_script.specs.declared.line.LineWhy.TheVariants.{Caller, Count, Prefix}
 
 -- ---- one line
@@ -50,6 +51,24 @@ line-leftmost = refl
 fault-line_2 : fault_text (record { line = 2; why = Prefix }) ≡ codes "line 2 fault 4"
 unfolding digits
 fault-line_2 = refl
+
+-- ---- the plain spelling of a line
+
+plain-set : plain_text (Made 63 (Set (4 ∷ 4 ∷ []) 5)) ≡ codes "63 set 44 5"
+unfolding digits
+plain-set = refl
+
+-- Zeros at the front of a prefix are digits of it.
+plain-list : plain_text (Made 0 (Listing (4 ∷ []) (0 ∷ 4 ∷ 5 ∷ []) 10)) ≡ codes "0 list 4 045 10"
+unfolding digits
+plain-list = refl
+
+line-cut : line_text Cut ≡ codes "cut\n"
+line-cut = refl
+
+-- A skipped line is an empty one.
+line-empty : line_text Skip ≡ codes "\n"
+line-empty = refl
 
 -- ---- scripts
 

@@ -2,7 +2,8 @@
 
 ghost use Rattle.palm_script.specs.Laws.{LinesReadBack, FaultsStand, StraightKeepsOrder, CutByCuts};
 
-/// What `print_line` prints, without the line feed, reads as the line that was printed, at each place in a script.
+/// What `print_line` prints of a line whose caller is at most `MOST_CALLER` reads, without the line feed, as that line,
+/// wherever in a script it stands.
 pub fn lines_read_back()
     ensures { LinesReadBack }
 {}

@@ -1,5 +1,5 @@
 use super::*;
-use palm_base::{Amount, Digits, NoMemory, Reply, Row, RowList};
+use palm_base::{Amount, Call, Digits, Limit, NoMemory, Reply, Row, RowList};
 use std::alloc::Global;
 use std::process::Abort;
 use std::test::Fail;
@@ -16,11 +16,89 @@ fn amount(rt: &impl Abort, value: u64) -> Amount {
     Amount::new(value).expect(rt, "a rate")
 }
 
+fn dialled(rt: &impl Abort, text: &str) -> Digits {
+    Digits::read(text.as_bytes()).expect(rt, "a prefix")
+}
+
 fn row(rt: &impl Abort, prefix: &str, rate: u64) -> Row {
     Row {
-        prefix: Digits::read(prefix.as_bytes()).expect(rt, "a prefix"),
+        prefix: dialled(rt, prefix),
         rate: amount(rt, rate),
     }
+}
+
+fn set(rt: &impl Abort, caller: u32, prefix: &str, rate: u64) -> Line {
+    let prefix = dialled(rt, prefix);
+    let rate = amount(rt, rate);
+    Line::Made {
+        caller,
+        call: Call::Set { prefix, rate },
+    }
+}
+
+fn del(rt: &impl Abort, caller: u32, prefix: &str) -> Line {
+    let prefix = dialled(rt, prefix);
+    Line::Made {
+        caller,
+        call: Call::Del { prefix },
+    }
+}
+
+fn get(rt: &impl Abort, caller: u32, prefix: &str) -> Line {
+    let prefix = dialled(rt, prefix);
+    Line::Made {
+        caller,
+        call: Call::Get { prefix },
+    }
+}
+
+fn rate(rt: &impl Abort, caller: u32, number: &str) -> Line {
+    let number = dialled(rt, number);
+    Line::Made {
+        caller,
+        call: Call::Rate { number },
+    }
+}
+
+fn list(rt: &impl Abort, caller: u32, from: &str, to: &str, limit: u32) -> Line {
+    let from = dialled(rt, from);
+    let to = dialled(rt, to);
+    let limit = Limit::new(limit).expect(rt, "a limit");
+    Line::Made {
+        caller,
+        call: Call::List { from, to, limit },
+    }
+}
+
+#[test]
+fn lines_are_printed_and_read_back(rt: HostRuntime) -> Result<(), Fail> {
+    let alloc = rt.alloc();
+    let mut out = Vec::new(alloc);
+    for (line, text) in [
+        (Line::Skip, ""),
+        (Line::Cut, "cut"),
+        (Line::Dump, "dump"),
+        (set(&rt, 0, "0", 0), "0 set 0 0"),
+        (
+            set(&rt, 63, "999999999999999", 999_999_999_999),
+            "63 set 999999999999999 999999999999",
+        ),
+        (del(&rt, 9, "044"), "9 del 044"),
+        (get(&rt, 10, "44"), "10 get 44"),
+        (rate(&rt, 7, "123456789012345"), "7 rate 123456789012345"),
+        (list(&rt, 1, "4", "045", 1), "1 list 4 045 1"),
+        (
+            list(&rt, 62, "000000000000000", "9", 1_000),
+            "62 list 000000000000000 9 1000",
+        ),
+    ] {
+        out.clear();
+        print_line(&line, &mut out)?;
+        let printed = out.strip_suffix(b"\n").expect(&rt, "a line feed");
+        assert_eq!(rt; printed, text.as_bytes());
+        assert_eq!(rt; read_line(printed, 7), Ok(line), "{text}");
+    }
+    Ok(())
 }
 
 #[test]
