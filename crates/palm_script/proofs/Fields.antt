@@ -38,6 +38,14 @@ after_blanks (b ∷ bs) =
 pub no_field : (bs : List ℕ) → length bs ≤ position_or_len (λ b. not (is_blank b)) bs → fields bs ≡ []
 no_field bs h = after_blanks bs ∙ ap fields (drop_all (position_or_len (λ b. not (is_blank b)) bs) bs h)
 
+-- a text without blanks is one field
+pub one_field : (bs : List ℕ) → 0 < length bs → All (λ b. is_blank b ≡ false) bs → fields bs ≡ bs ∷ []
+one_field bs some solid = ap (filter (λ part. ltb 0 (length part))) (slice_split_none is_blank bs solid) ∙ rw (lt-ltb 0 (length bs) some) refl
+
+-- and with a blank behind it the first of several
+pub field_before : (bs : List ℕ) (blank : ℕ) (rest : List ℕ) → 0 < length bs → All (λ b. is_blank b ≡ false) bs → is_blank blank ≡ true → fields (bs ++ blank ∷ rest) ≡ bs ∷ fields rest
+field_before bs blank rest some solid e = ap (filter (λ part. ltb 0 (length part))) (slice_split_at is_blank bs blank rest solid e) ∙ rw (lt-ltb 0 (length bs) some) refl
+
 -- a field goes up to the first blank
 up_to_blank : (bs : List ℕ) (n : ℕ) → n ≡ position_or_len is_blank bs → 0 < n → n < length bs → fields bs ≡ take n bs ∷ fields (drop n bs)
 up_to_blank bs n n-is some lt =
@@ -47,14 +55,6 @@ up_to_blank bs n n-is some lt =
     let blank : is_blank (get_or bs n 0) ≡ true = rw n-is (passes_at_first is_blank bs 0 before) in
     let rest : fields (drop n bs) ≡ fields (drop (n + 1) bs) = at_drop_more fields bs n 0 lt ∙ past_blank (get_or bs n 0) (drop (n + 1) bs) blank in
     ap (filter (λ part. ltb 0 (length part))) parts ∙ rw long (ap (λ l. take n bs ∷ l) (sym rest))
-
--- a text without blanks is one field
-pub one_field : (bs : List ℕ) → 0 < length bs → All (λ b. is_blank b ≡ false) bs → fields bs ≡ bs ∷ []
-one_field bs some solid = ap (filter (λ part. ltb 0 (length part))) (slice_split_none is_blank bs solid) ∙ rw (lt-ltb 0 (length bs) some) refl
-
--- and with a blank behind it the first of several
-pub field_before : (bs : List ℕ) (blank : ℕ) (rest : List ℕ) → 0 < length bs → All (λ b. is_blank b ≡ false) bs → is_blank blank ≡ true → fields (bs ++ blank ∷ rest) ≡ bs ∷ fields rest
-field_before bs blank rest some solid e = ap (filter (λ part. ltb 0 (length part))) (slice_split_at is_blank bs blank rest solid e) ∙ rw (lt-ltb 0 (length bs) some) refl
 
 -- or to the end
 up_to_end : (bs : List ℕ) (n : ℕ) → n ≡ position_or_len is_blank bs → 0 < n → length bs ≤ n → fields bs ≡ take n bs ∷ fields (drop n bs)

@@ -1,6 +1,6 @@
 -- Digits of prefixes, and numbers in decimal, as texts: fields of digits that read as what they spell.
-use Rattle.std.proofs.Common.{◌≡◌, ℕ, ◌+◌, ◌-◌, ◌<◌, ◌≤◌, ◌^◌, ◌&&◌, Bool, true, false, not, cond, eqb, ltb, leb, List, [], ◌∷◌, length, map, take, get_or, All, Some, None, Ok, Err, refl, ap, ◌∙◌, arith, rules}
-use Rattle.std.specs.List.{list_all, position, position_or_len, AllByRecursion}
+use Rattle.std.proofs.Common.{◌≡◌, ℕ, ◌+◌, ◌-◌, ◌<◌, ◌≤◌, ◌^◌, Bool, true, false, not, cond, eqb, ltb, leb, List, [], ◌∷◌, length, take, get_or, All, Some, None, Ok, Err, refl, ap, ◌∙◌, arith, rules}
+use Rattle.std.specs.List.{list_all, position, position_or_len}
 use Rattle.std.specs.Fmt.{decimal}
 use Rattle.std.specs.Int.Digits.{number_from_digits_after}
 use Rattle.std.proofs.lemmas.Bool.{and_parts, lt-ltb, le-leb, le-ltb, ne_eqb}
@@ -8,7 +8,9 @@ use Rattle.std.proofs.lemmas.Fmt.{digits_decimal, digits_value-decimal, length-d
 use Rattle.std.proofs.lemmas.List.{take_all, length-map}
 use Rattle.std.proofs.lemmas.List.Sums.{AllPass-from_list_all}
 use Rattle.std.proofs.lemmas.Str.Parse.{IsNumeralModel, numerals_by_fold}
+use Rattle.palm_base.specs.declared.digits.TheConstants.{MOST_DIGITS}
 use Rattle.palm_base.specs.declared.digits.DigitsFault.TheVariants.{Empty, Long}
+use Rattle.palm_base.specs.declared.number.TheConstants.{MOST_NUMBER_DIGITS}
 use Rattle.palm_base.specs.Numbers.{value_of, is_number, is_from_to}
 use Rattle.palm_base.specs.Prefix.{AreDigits, IsPrefix, is_no_digit, digits_in, read_of, read_at}
 use Rattle.palm_base.specs.Text.{digits_text}
@@ -48,13 +50,13 @@ decimal_text n small = record { some = decimal_nonempty n small; digits = digits
 pub value_of-decimal : (n : ℕ) → n < 2 ^ 64 → value_of (decimal n) ≡ n
 value_of-decimal n small = digits_value-decimal own n small
 
-pub length-decimal : (n : ℕ) → n < 2 ^ 64 → length (decimal n) ≤ 20
-length-decimal n small = length-decimal-le 20 n (omega arith) (omega arith) small
+pub length-decimal : (n : ℕ) → n < 2 ^ 64 → length (decimal n) ≤ MOST_NUMBER_DIGITS
+length-decimal n small = length-decimal-le MOST_NUMBER_DIGITS n (omega arith) (omega arith) small
 
 is_number-decimal : (n : ℕ) → n < 2 ^ 64 → is_number (decimal n) ≡ true
 is_number-decimal n small =
     let some : ltb 0 (length (decimal n)) ≡ true = lt-ltb 0 (length (decimal n)) (decimal_nonempty n small) in
-    let few : leb (length (decimal n)) 20 ≡ true = le-leb (length (decimal n)) 20 (length-decimal n small) in
+    let few : leb (length (decimal n)) MOST_NUMBER_DIGITS ≡ true = le-leb (length (decimal n)) MOST_NUMBER_DIGITS (length-decimal n small) in
     rw (some, few) (digits_decimal own n small)
 
 pub is_from_to-decimal : (least most n : ℕ) → n < 2 ^ 64 → least ≤ n → n ≤ most → is_from_to least most (decimal n) ≡ true
@@ -96,9 +98,9 @@ pub read_of-digits_text : (ds : List ℕ) → IsPrefix ds → read_of (digits_te
 read_of-digits_text ds h =
     let text : List ℕ = digits_text ds in
     let size : length text ≡ length ds = length-digits_text ds in
-    let whole : take 15 text ≡ text = take_all 15 text (omega (arith, size, h.few)) in
-    let none : position is_no_digit (take 15 text) ≡ None =
+    let whole : take MOST_DIGITS text ≡ text = take_all MOST_DIGITS text (omega (arith, size, h.few)) in
+    let none : position is_no_digit (take MOST_DIGITS text) ≡ None =
     ap (position is_no_digit) whole ∙ ap (λ k. cond (ltb k (length text)) (Some k) None) (no_other text (all_spelled ds h.small)) ∙ ap (λ b. cond b (Some (length text)) None) (le-ltb (length text) (length text) (omega arith)) in
-    ap (λ b. cond b (Err Empty) (read_at (position is_no_digit (take 15 text)) text)) (ne_eqb (length text) 0 (λ e. omega (arith, size, h.some)))
-    ∙ ap (λ o. read_at o text) none ∙ ap (λ b. cond b (Err Long) (Ok (digits_in text))) (le-ltb 15 (length text) (omega (arith, size, h.few)))
+    ap (λ b. cond b (Err Empty) (read_at (position is_no_digit (take MOST_DIGITS text)) text)) (ne_eqb (length text) 0 (λ e. omega (arith, size, h.some)))
+    ∙ ap (λ o. read_at o text) none ∙ ap (λ b. cond b (Err Long) (Ok (digits_in text))) (le-ltb MOST_DIGITS (length text) (omega (arith, size, h.few)))
     ∙ ap (λ (l : List ℕ). Ok l) (digits_in-digits_text ds)

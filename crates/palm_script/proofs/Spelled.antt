@@ -1,18 +1,20 @@
 -- Lines in their plain spelling read as what they say.
-use Rattle.std.proofs.Common.{◌≡◌, ℕ, ◌+◌, ◌≤◌, ◌<◌, ◌^◌, true, false, cond, ltb, List, [], ◌∷◌, ◌++◌, length, Ok, Err, refl, ap, ◌∙◌, arith}
+use Rattle.std.proofs.Common.{◌≡◌, ℕ, ◌≤◌, ◌<◌, ◌^◌, true, false, cond, ltb, List, [], ◌∷◌, ◌++◌, length, Ok, Err, refl, ap, ◌∙◌, arith}
 use Rattle.std.specs.Prelude.{codes, is_ok}
 use Rattle.std.specs.Fmt.{decimal}
 use Rattle.std.specs.Result.{result_map_both}
 use Rattle.std.proofs.lemmas.Bool.{le-ltb}
 use Rattle.std.proofs.lemmas.List.{length-append}
-use Rattle.palm_base.specs.Numbers.{value_of}
-use Rattle.palm_base.specs.Prefix.{IsPrefix, digits_in}
+use Rattle.palm_base.specs.Prefix.{IsPrefix}
 use Rattle.palm_base.specs.Text.{digits_text}
+use Rattle.palm_base.specs.declared.digits.TheConstants.{MOST_DIGITS}
+use Rattle.palm_base.specs.declared.amount.TheConstants.{MOST_RATE, MOST_LIMIT}
 use Rattle.palm_base.specs.declared.call.Call.{Call}
 use Rattle.palm_base.specs.declared.call.Call.TheVariants.{Set, Del, Get, Rate, List as Listing}
 use Rattle.palm_script.specs.Laws.{LinesReadBack}
 use Rattle.palm_script.specs.Line.{fields, is_caller, is_rate, is_limit, is_dialled, set_of, del_of, get_of, rate_of, list_of, call_of, made_by, said_by, meaning_of}
 use Rattle.palm_script.specs.Spelling.{call_text, plain_text, IsSayableCall, IsSayable}
+use Rattle.palm_script.specs.declared.line.TheConstants.{MOST_CALLER, MOST_LINE}
 use Rattle.palm_script.specs.declared.line.Line.{Line}
 use Rattle.palm_script.specs.declared.line.Line.TheVariants.{Skip, Made, Cut, Dump}
 use Rattle.palm_script.specs.declared.line.LineWhy.TheVariants.{Long}
@@ -33,11 +35,12 @@ dialled ds h = ap is_ok (read_of-digits_text ds h)
 -- ---- calls
 
 set_reads : (prefix : List ℕ) (rate : ℕ) → IsSayableCall (Set prefix rate) → set_of (fields (digits_text prefix ++ (codes " " ++ decimal rate))) ≡ Ok (Set prefix rate)
-set_reads prefix rate h =
+set_reads prefix rate (h, high) =
+    let small : rate < 2 ^ 64 = omega arith in
     let parts : fields (digits_text prefix ++ (codes " " ++ decimal rate)) ≡ digits_text prefix ∷ decimal rate ∷ [] =
-    next_field (digits_text prefix) (decimal rate) (prefix_text prefix h.0) ∙ ap (λ (l : List (List ℕ)). digits_text prefix ∷ l) (last_field (decimal rate) (decimal_text rate (omega (arith, h.1)))) in
-    let is : is_rate (decimal rate) ≡ true = is_from_to-decimal 0 999999999999 rate (omega (arith, h.1)) (omega arith) h.1 in
-    ap set_of parts ∙ rw (dialled prefix h.0, is, digits_in-digits_text prefix, value_of-decimal rate (omega (arith, h.1))) refl
+    next_field (digits_text prefix) (decimal rate) (prefix_text prefix h) ∙ ap (λ (l : List (List ℕ)). digits_text prefix ∷ l) (last_field (decimal rate) (decimal_text rate small)) in
+    let is : is_rate (decimal rate) ≡ true = is_from_to-decimal 0 MOST_RATE rate small (omega arith) high in
+    ap set_of parts ∙ rw (dialled prefix h, is, digits_in-digits_text prefix, value_of-decimal rate small) refl
 
 del_reads : (prefix : List ℕ) → IsPrefix prefix → del_of (fields (digits_text prefix)) ≡ Ok (Del prefix)
 del_reads prefix h = ap del_of (last_field (digits_text prefix) (prefix_text prefix h)) ∙ rw (dialled prefix h, digits_in-digits_text prefix) refl
@@ -56,7 +59,7 @@ list_reads from to limit (h, k, low, high) =
     next_field (digits_text to) (decimal limit) (prefix_text to k) ∙ ap (λ (l : List (List ℕ)). digits_text to ∷ l) (last_field (decimal limit) (decimal_text limit small)) in
     let parts : fields (digits_text from ++ (codes " " ++ (digits_text to ++ (codes " " ++ decimal limit)))) ≡ digits_text from ∷ digits_text to ∷ decimal limit ∷ [] =
     next_field (digits_text from) (digits_text to ++ (codes " " ++ decimal limit)) (prefix_text from h) ∙ ap (λ (l : List (List ℕ)). digits_text from ∷ l) ends in
-    let is : is_limit (decimal limit) ≡ true = is_from_to-decimal 1 1000 limit small low high in
+    let is : is_limit (decimal limit) ≡ true = is_from_to-decimal 1 MOST_LIMIT limit small low high in
     ap list_of parts ∙ rw (dialled from h, dialled to k, is, digits_in-digits_text from, digits_in-digits_text to, value_of-decimal limit small) refl
 
 call_reads : (call : Call) → IsSayableCall call → call_of (fields (call_text call)) ≡ Ok call
@@ -66,7 +69,9 @@ call_reads (Get prefix) h = get_reads prefix h
 call_reads (Rate number) h = rate_reads number h
 call_reads (Listing from to limit) h = list_reads from to limit h
 
-prefix_short : (ds : List ℕ) → IsPrefix ds → length (digits_text ds) ≤ 15
+-- ---- lengths
+
+prefix_short : (ds : List ℕ) → IsPrefix ds → length (digits_text ds) ≤ MOST_DIGITS
 prefix_short ds h = omega (arith, length-digits_text ds, h.few)
 
 call_short : (call : Call) → IsSayableCall call → length (call_text call) ≤ 100
@@ -89,9 +94,9 @@ made_reads : (caller : ℕ) (call : Call) → IsSayable (Made caller call) → m
 made_reads caller call (few, h) =
     let small : caller < 2 ^ 64 = omega arith in
     let text : List ℕ = plain_text (Made caller call) in
-    let short : ltb 1024 (length text) ≡ false = le-ltb 1024 (length text) (omega (arith, length-append (decimal caller) (codes " " ++ call_text call), length-decimal caller small, call_short call h)) in
+    let short : ltb MOST_LINE (length text) ≡ false = le-ltb MOST_LINE (length text) (omega (arith, length-append (decimal caller) (codes " " ++ call_text call), length-decimal caller small, call_short call h)) in
     let parts : fields text ≡ decimal caller ∷ fields (call_text call) = next_field (decimal caller) (call_text call) (decimal_text caller small) in
-    let is : is_caller (decimal caller) ≡ true = is_from_to-decimal 0 63 caller small (omega arith) few in
+    let is : is_caller (decimal caller) ≡ true = is_from_to-decimal 0 MOST_CALLER caller small (omega arith) few in
     ap (λ b. cond b (Err Long) (said_by (fields text))) short ∙ ap said_by parts ∙ no_word (decimal caller) (fields (call_text call)) (decimal_text caller small)
     ∙ rw (is, value_of-decimal caller small, call_reads call h) refl
 
