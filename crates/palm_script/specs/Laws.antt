@@ -3,10 +3,12 @@ use Rattle.std.specs.Prelude.{◌≡◌, ◌≤◌, ℕ, Bool, false, List, [], 
 use Rattle.std.specs.List.{AllByRecursion}
 use Rattle.palm_base.specs.History.{entries_of, numbered, IsCutting}
 use Rattle.palm_base.specs.declared.call.Entry.{Entry}
-use Rattle.palm_script.specs.Line.{line_of}
+use Rattle.palm_script.specs.Line.{line_of, LineFits}
 use Rattle.palm_script.specs.Script.{script_of, entries_from, calls_by}
 use Rattle.palm_script.specs.Spelling.{plain_text, IsSayable}
-use Rattle.palm_script.specs.Transcript.{cut_by}
+use Rattle.palm_script.specs.Storms.{IsStormy}
+use Rattle.palm_script.specs.Transcript.{Section, cut_by, history_of, straight, text_of}
+use Rattle.palm_script.specs.declared.dump.DumpWhen.{DumpWhen}
 use Rattle.palm_script.specs.declared.line.Line.{Line}
 
 -- Where the lines of a text hold a faulty one, every longer text says the same.
@@ -26,3 +28,17 @@ abbrev pub CutByCuts : Type 0
 CutByCuts =
     (entries : List Entry) (most : ℕ) → 1 ≤ most
     → IsCutting entries (cut_by most (length entries)) × AllByRecursion (λ n. n ≤ most) (cut_by most (length entries))
+
+-- The sections of a script's run in the order of its lines have its entries, whole and in order.
+abbrev pub SectionsJoin : Type 0
+SectionsJoin = (items : List Line) (most : ℕ) → history_of (straight items most) ≡ entries_from [] items
+
+-- The run in the order of the lines is stormy.
+abbrev pub StraightIsStormy : Type 0
+StraightIsStormy = (items : List Line) (most : ℕ) → 1 ≤ most → AllByRecursion LineFits items → IsStormy items most (straight items most)
+
+-- No two stormy runs of one script have one transcript.
+abbrev pub TextShowsRun : Type 0
+TextShowsRun =
+    (items : List Line) (most : ℕ) (dump : DumpWhen) (run other : List Section)
+    → IsStormy items most run → IsStormy items most other → text_of dump run ≡ text_of dump other → run ≡ other

@@ -5,4 +5,5 @@ pub mod Line
 pub mod MemoryForms
 pub mod Script
 pub mod Spelling
+pub mod Storms
 pub mod Transcript

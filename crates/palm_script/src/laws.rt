@@ -1,6 +1,6 @@
 //! Laws of the definitions of scripts and runs. Each function has an empty body: its contract is the law.
 
-ghost use Rattle.palm_script.specs.Laws.{LinesReadBack, FaultsStand, StraightKeepsOrder, CutByCuts};
+ghost use Rattle.palm_script.specs.Laws.{LinesReadBack, FaultsStand, StraightKeepsOrder, CutByCuts, SectionsJoin, StraightIsStormy, TextShowsRun};
 
 /// What `print_line` prints of a line whose caller is at most `MOST_CALLER` reads, without the line feed, as that line,
 /// wherever in a script it stands.
@@ -22,4 +22,20 @@ pub fn straight_keeps_order()
 /// Batches of `most` calls, and what is left, are a cutting, none longer than `most`.
 pub fn cut_by_cuts()
     ensures { CutByCuts }
+{}
+
+/// The sections of a script's run in the order of its lines have the script's entries, whole and in order.
+pub fn sections_join()
+    ensures { SectionsJoin }
+{}
+
+/// The run in the order of the lines is one of those in which the callers of a section call beside each other.
+pub fn straight_is_stormy()
+    ensures { StraightIsStormy }
+{}
+
+/// A transcript determines its run: of all runs of a script in which the callers of a section call beside each other, no
+/// two have one transcript.
+pub fn text_shows_run()
+    ensures { TextShowsRun }
 {}
