@@ -66,7 +66,7 @@ impl Journal {
         if self.touched[id.place] {
             return Ok(());
         }
-        let place = places[id.place].clone()?;
+        let place = places[id.place].copy();
         self.free.reserve(self.saved.len() + 1)?;
         self.saved.push(Saved { id, place })?;
         self.touched[id.place] = true;

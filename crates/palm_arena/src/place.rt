@@ -1,3 +1,5 @@
+ghost use Rattle.std.specs.Prelude.{◌≡◌};
+
 use palm_node::Node;
 
 /// What stands at a place of an arena.
@@ -9,4 +11,17 @@ pub enum Place {
     Lent,
     /// A node.
     Holds(Node),
+}
+
+impl Place {
+    // What stands there once more.
+    pub(crate) fn copy(&self) -> Place
+        ensures { result ≡ self.now }
+    {
+        match self {
+            Place::Empty => Place::Empty,
+            Place::Lent => Place::Lent,
+            Place::Holds(node) => Place::Holds(node.copy()),
+        }
+    }
 }

@@ -110,6 +110,18 @@ impl Inner {
         Inner::from_children(&ids, &lows[1..])
     }
 
+    /// The same node once more.
+    pub fn copy(&self) -> Inner
+        ensures { result ≡ self.now }
+    {
+        let mut children = ArrayVec::new();
+        put_children(&mut children, &self.children);
+        Inner {
+            children,
+            separators: self.separators,
+        }
+    }
+
     /// The number of children.
     pub fn len(&self) -> usize
         ensures len { result ≡ length self.now.children }

@@ -71,6 +71,18 @@ impl Leaf {
         Leaf { keys, rates }
     }
 
+    /// The same leaf once more.
+    pub fn copy(&self) -> Leaf
+        ensures { result ≡ self.now }
+    {
+        let mut rates = ArrayVec::new();
+        rates.try_extend_from_slice(&self.rates).unwrap();
+        Leaf {
+            keys: self.keys,
+            rates,
+        }
+    }
+
     /// The number of rows.
     pub fn len(&self) -> usize
         ensures len { result ≡ length self.now }

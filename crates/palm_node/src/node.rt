@@ -1,3 +1,5 @@
+ghost use Rattle.std.specs.Prelude.{◌≡◌};
+
 use crate::inner::Inner;
 use crate::leaf::Leaf;
 
@@ -6,4 +8,16 @@ use crate::leaf::Leaf;
 pub enum Node {
     Leaf(Leaf),
     Inner(Inner),
+}
+
+impl Node {
+    /// The same node once more.
+    pub fn copy(&self) -> Node
+        ensures { result ≡ self.now }
+    {
+        match self {
+            Node::Leaf(leaf) => Node::Leaf(leaf.copy()),
+            Node::Inner(inner) => Node::Inner(inner.copy()),
+        }
+    }
 }

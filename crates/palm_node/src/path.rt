@@ -33,6 +33,15 @@ impl Path {
         }
     }
 
+    /// The same path once more.
+    pub fn copy(&self) -> Path
+        ensures { result ≡ self.now }
+    {
+        let mut steps = ArrayVec::new();
+        steps.try_extend_from_slice(&self.steps).unwrap();
+        Path { steps }
+    }
+
     /// The number of steps.
     pub fn len(&self) -> usize
         ensures len { result ≡ length self.now }
