@@ -1,7 +1,7 @@
 -- Parts that are cut into shares, routed by share, and joined: they are the same parts, and each is at its leaf.
-use Rattle.std.proofs.Common.{◌≡◌, ℕ, ◌+◌, ◌<◌, ◌≤◌, List, [], ◌∷◌, ◌++◌, length, get_or, map, take, drop, Option, Some, None, refl, sym, ap, subst, ◌∙◌}
+use Rattle.std.proofs.Common.{◌≡◌, ℕ, ◌+◌, ◌<◌, ◌≤◌, List, [], ◌∷◌, ◌++◌, length, get_or, map, take, drop, Option, Some, None, refl, sym, ap, subst, arith, ◌∙◌, ◌⊎◌, inl, inr}
 use Rattle.std.specs.List.{AllByRecursion, AllZip, flat_map}
-use Rattle.std.proofs.lemmas.List.{map-append, map-id, take-append-drop}
+use Rattle.std.proofs.lemmas.List.{length-take, length-drop, length-map, map-append, map-id, take-append-drop}
 use Rattle.std.proofs.lemmas.List.Folds.{length-flat_map-take}
 use Rattle.palm_arena.specs.ArenaState.{ArenaState}
 use Rattle.palm_arena.specs.declared.shape.Shape.{Shape}
@@ -22,7 +22,7 @@ Begins arena shape work = (work.arena.now ≡ arena) × (work.shape ≡ shape) �
 -- What is done with a share.
 abbrev pub Ran : DescentWork → DescentWork → Type 0
 Ran before after =
-    (map (λ (one : Routed). one.part) after.routed.items ≡ before.parts.items)
+    (map (λ (one : Routed). one.part) after.routed.items ≡ before.parts.now)
     × AllByRecursion (IsRoutedTo (leaves_at (map_of before.arena.now.places) before.shape)) after.routed.items
 
 -- An item that was run is there.
@@ -33,6 +33,13 @@ all_there R (item ∷ before) [] ran = absurd ran
 all_there R (None ∷ before) (other ∷ after) ran = absurd ran.0
 all_there R (Some item ∷ before) (None ∷ after) ran = absurd ran.0
 all_there R (Some item ∷ before) (Some other ∷ after) ran = (tt, all_there R before after ran.1)
+
+-- Where the parts aren't one share, they are none, or more than a share has.
+pub none_or_more : (size : ℕ) (parts : List Part) (shares : List (List Part)) → AreCut size parts shares → (length shares ≡ 1 → ⊥) → (length parts ≡ 0) ⊎ (size < length parts)
+none_or_more size parts [] cut other = inl (ap length cut)
+none_or_more size parts (share ∷ []) cut other = absurd (other refl)
+none_or_more size parts (share ∷ next ∷ shares) cut other =
+    inr (omega (arith, cut.2.1, ap length cut.2.0, length-take size (drop size parts), length-drop size parts))
 
 -- Shares hold all parts.
 cut_whole : (size : ℕ) (parts : List Part) (works : List (Option DescentWork)) → AreCut size parts (map share_of works) → flat_map share_of works ≡ parts
@@ -49,7 +56,7 @@ same_parts (Some work ∷ before) (None ∷ after) ran = absurd ran.0
 same_parts (Some work ∷ before) (Some other ∷ after) ran =
     map-append (λ (one : Routed). one.part) other.routed.items (flat_map routed_of after)
     ∙ ap (λ (l : List Part). l ++ map (λ (one : Routed). one.part) (flat_map routed_of after)) ran.0.0
-    ∙ ap (λ (l : List Part). work.parts.items ++ l) (same_parts before after ran.1)
+    ∙ ap (λ (l : List Part). work.parts.now ++ l) (same_parts before after ran.1)
 
 all_routed : (arena : ArenaState) (shape : Shape) (before after : List (Option DescentWork)) → AllByRecursion (Holds (Begins arena shape)) before → AllZip (Relates Ran) before after
     → AllByRecursion (IsRoutedTo (leaves_at (map_of arena.places) shape)) (flat_map routed_of after)
@@ -73,6 +80,21 @@ are_routed arena shape size parts before after cut begin ran = record {
   same = same_parts before after ran ∙ cut_whole size parts before cut;
   at_leaves = all_routed arena shape before after begin ran;
 }
+
+-- Where all parts aren't one share, there is room for the routed ones that has room for more parts than a share has.
+pub join_fits : (arena : ArenaState) (shape : Shape) (size room : ℕ) (parts : List Part) (before after : List (Option DescentWork))
+    → AreCut size parts (map share_of before) → AllByRecursion (Holds (Begins arena shape)) before → AllZip (Relates Ran) before after → length after ≡ length before
+    → (size < length parts → length parts ≤ room) → (length after ≡ 1 → ⊥) → length (flat_map routed_of after) ≤ room
+join_fits arena shape size room parts before after cut begin ran count enough other =
+    by (none_or_more size parts (map share_of before) cut (λ one. other (count ∙ sym (length-map before share_of) ∙ one)))
+  where
+    total : length (flat_map routed_of after) ≡ length parts
+    total =
+        sym (length-map (flat_map routed_of after) (λ (one : Routed). one.part)) ∙ ap length (are_routed arena shape size parts before after cut begin ran).same
+
+    by : (length parts ≡ 0) ⊎ (size < length parts) → length (flat_map routed_of after) ≤ room
+    by (inl none) = omega (arith, total, none)
+    by (inr more) = omega (arith, total, enough more)
 
 -- What the items so far and the next one hold is no more than what all of them hold.
 pub next_fits : {X Y : Type 0} (f : X → List Y) (all now : List X) (x : X) → map (λ y. y) now ≡ take (length now) all → length now < length all → x ≡ get_or all (length now) x

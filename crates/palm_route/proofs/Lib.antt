@@ -7,8 +7,8 @@ pub mod LaterLows
 pub mod LeavesUnder
 pub mod ListLeaves
 pub mod LowWalks
+pub mod MarkedParts
 pub mod PartEdits
 pub mod PartSteps
 pub mod Routings
 pub mod SortedParts
-pub mod TakenParts

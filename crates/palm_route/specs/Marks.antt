@@ -1,5 +1,5 @@
 -- Marks by which parts are sorted.
-use Rattle.std.specs.Prelude.{ℕ, Bool, ◌==◌, List, [], ◌∷◌, slice_index_or, Option, None}
+use Rattle.std.specs.Prelude.{ℕ, List, [], ◌∷◌, slice_index_or}
 use Rattle.std.proofs.Common.{suc}
 use Rattle.palm_route.specs.declared.grouping.Mark.{Mark}
 use Rattle.palm_route.specs.declared.part.Ask.TheVariants as ask
@@ -17,11 +17,3 @@ at_low low = record { part = record { entry = 0; number = 0; key = 0; ask = ask.
 -- The part that is marked. So of the two parts above (0, 1) marks the second.
 abbrev pub marked : List Routed → Mark → Routed
 marked routed mark = slice_index_or routed mark.place (at_low mark.low)
-
--- The part that stands at the mark's place, if it is still there.
-abbrev pub part_at : List (Option Routed) → Mark → Option Routed
-part_at slots mark = slice_index_or slots mark.place None
-
--- Two marks have one place.
-abbrev pub same_place : Mark → Mark → Bool
-same_place mark other = mark.place == other.place

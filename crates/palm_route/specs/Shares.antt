@@ -8,7 +8,7 @@ use Rattle.palm_route.specs.declared.part.Routed.{Routed}
 -- The parts of a share that is there.
 abbrev pub share_of : Option DescentWork → List Part
 share_of None = []
-share_of (Some work) = work.parts.items
+share_of (Some work) = work.parts.now
 
 -- The routed parts of a share that is there.
 abbrev pub routed_of : Option DescentWork → List Routed
@@ -17,7 +17,7 @@ routed_of (Some work) = work.routed.items
 
 -- No part is routed yet, and there is room for all.
 abbrev pub HasRoom : DescentWork → Type 0
-HasRoom work = (work.routed.items ≡ []) × (length work.parts.items ≤ vec_capacity work.routed)
+HasRoom work = (work.routed.items ≡ []) × (length work.parts.now ≤ vec_capacity work.routed)
 
 -- The shares have these parts, in order: each has `size` of them, and the last may have fewer. None is empty.
 -- So five parts in shares of two are two, two and one, and no parts are no shares.

@@ -1,5 +1,5 @@
 // The way of a part down the tree: at each inner node to the child whose range has the part's key.
-ghost use Rattle.std.specs.Prelude.{◌≡◌, ◌<◌, ◌≤◌, [], ◌∷◌, length, slice_get, map, take, drop, All, IfOk, OnOk, Some};
+ghost use Rattle.std.specs.Prelude.{◌≡◌, ◌<◌, ◌≤◌, [], ◌∷◌, length, slice_get, map, All, IfOk, Some};
 ghost use Rattle.std.specs.List.{AllByRecursion, flat_map};
 ghost use Rattle.std.specs.Vec.{vec_capacity};
 ghost use Rattle.palm_arena.specs.Leaves.{leaves_at, leaf_for};
@@ -14,7 +14,6 @@ use palm_base::NoMemory;
 use palm_node::{Inner, ItemList, Node, NodeId, Path};
 use palm_share::{Gate, Job, MOST_WORKERS, each_mut};
 use std::alloc::Global;
-use std::collections::VecDeque;
 use std::thread::Threads;
 
 // A leaf: where it is, the way to it, and where its range begins.
@@ -57,14 +56,14 @@ fn find_leaf(arena: &Arena, shape: Shape, key: u64) -> LeafSpot
 }
 
 // The part at the leaf whose range has its key.
-fn route(arena: &Arena, shape: Shape, part: Part) -> Routed
+fn route(arena: &Arena, shape: Shape, part: &Part) -> Routed
     requires { HasTree (map_of arena.now.places) shape }
-    ensures part { result.part ≡ part }
+    ensures part { result.part ≡ part.now }
     ensures routed { IsRoutedTo (leaves_at (map_of arena.now.places) shape) result }
 {
     let LeafSpot { leaf, path, low } = find_leaf(arena, shape, part.key);
     Routed {
-        part,
+        part: part.copy(),
         leaf,
         path,
         low,
@@ -76,40 +75,21 @@ fn route(arena: &Arena, shape: Shape, part: Part) -> Routed
 struct DescentWork<'a> {
     arena: &'a Arena,
     shape: Shape,
-    parts: VecDeque<Part>,
+    parts: &'a [Part],
     routed: Vec<Routed>,
 }
 
 impl<'a> Job for DescentWork<'a> {
     ghost ready = { λ work. HasTree (map_of work.arena.now.places) work.shape × HasRoom work };
 
-    ghost ran = { λ before after. (map (λ one. one.part) after.routed.items ≡ before.parts.items) × AllByRecursion (IsRoutedTo (leaves_at (map_of before.arena.now.places) before.shape)) after.routed.items };
+    ghost ran = { λ before after. (map (λ one. one.part) after.routed.items ≡ before.parts.now) × AllByRecursion (IsRoutedTo (leaves_at (map_of before.arena.now.places) before.shape)) after.routed.items };
 
     fn run(&mut self) {
-        while let Some(part) = self.parts.pop_front() {
+        for part in self.parts {
             self.routed
                 .push_reserved(route(self.arena, self.shape, part));
         }
     }
-}
-
-// Takes the first `size` items out, or all where there are fewer.
-fn take_front<T: Drop>(
-    alloc: Global,
-    size: usize,
-    items: &mut VecDeque<T>,
-) -> Result<VecDeque<T>, NoMemory>
-    ensures front { IfOk result (λ front. front.items ≡ take size items.old.items) }
-    ensures rest { OnOk result (items.new.items ≡ drop size items.old.items) }
-{
-    let count = size.min(items.len());
-    let mut front = VecDeque::with_capacity(alloc, count)?;
-    for _ in 0..count {
-        if let Some(item) = items.pop_front() {
-            front.push_back(item)?;
-        }
-    }
-    Ok(front)
 }
 
 // Cuts parts into shares of `size`, of which the last may have fewer.
@@ -117,17 +97,17 @@ fn cut<'a>(
     alloc: Global,
     arena: &'a Arena,
     shape: Shape,
-    parts: PartList,
+    parts: &'a [Part],
     size: usize,
 ) -> Result<Vec<Option<DescentWork<'a>>>, NoMemory>
     requires { 0 < size }
-    ensures shares { IfOk result (λ works. AreCut size parts (map share_of works.items)) }
+    ensures shares { IfOk result (λ works. AreCut size parts.now (map share_of works.items)) }
     ensures begin { IfOk result (λ works. AllByRecursion (Holds (λ work. (work.arena.now ≡ arena.now) × (work.shape ≡ shape) × HasRoom work)) works.items) }
 {
-    let mut rest = VecDeque::from_vec(parts.into_vec());
+    let mut rest = parts;
     let mut works = Vec::new(alloc);
     while !rest.is_empty() {
-        let parts = take_front(alloc, size, &mut rest)?;
+        let (parts, behind) = rest.split_at(size.min(rest.len()));
         let routed = Vec::with_capacity(alloc, parts.len())?;
         works.push(Some(DescentWork {
             arena,
@@ -135,12 +115,20 @@ fn cut<'a>(
             parts,
             routed,
         }))?;
+        rest = behind;
     }
     Ok(works)
 }
 
+// For how many routed parts there must be room beside their shares: for none where all are one share.
+fn room_beside(count: usize, size: usize) -> usize
+    ensures { size < count → result ≡ count }
+{
+    if count <= size { 0 } else { count }
+}
+
 // Moves the routed parts of all shares to where there is room for them.
-fn join(works: Vec<Option<DescentWork<'_>>>, routed: &mut Vec<Routed>)
+fn append_all(works: Vec<Option<DescentWork<'_>>>, routed: &mut Vec<Routed>)
     requires there { All (Holds (λ _. Unit {0})) works.items }
     requires none { routed.old.items ≡ [] }
     requires room { length (flat_map routed_of works.items) ≤ vec_capacity routed.old }
@@ -152,6 +140,24 @@ fn join(works: Vec<Option<DescentWork<'_>>>, routed: &mut Vec<Routed>)
             unreachable!()
         };
     }
+}
+
+// The routed parts of all shares. Those of a single share stay where they are, and those of several are moved to where there
+// is room for them.
+fn join(mut works: Vec<Option<DescentWork<'_>>>, mut room: Vec<Routed>) -> Vec<Routed>
+    requires there { All (Holds (λ _. Unit {0})) works.items }
+    requires none { room.items ≡ [] }
+    requires room { (length works.items ≡ 1 → ⊥) → length (flat_map routed_of works.items) ≤ vec_capacity room }
+    ensures { result.items ≡ flat_map routed_of works.entry.items }
+{
+    if works.len() == 1 {
+        let Some(Some(work)) = works.pop() else {
+            unreachable!()
+        };
+        return work.routed;
+    }
+    append_all(works, &mut room);
+    room
 }
 
 /// Routes parts down a tree, by at most `workers` workers beside each other: each part to the leaf whose range has its key.
@@ -174,10 +180,9 @@ pub fn descend<R: Threads + Sync, G: Gate + Sync>(
     ensures parts { IfOk result (λ routed. map (λ one. one.part) routed ≡ parts) }
     ensures routed { IfOk result (λ routed. AllByRecursion (IsRoutedTo (leaves_at (map_of arena.now.places) shape)) routed) }
 {
-    let mut routed = Vec::with_capacity(alloc, parts.len())?;
     let size = parts.len().div_ceil(workers as usize).max(1);
-    let mut works = cut(alloc, arena, shape, parts, size)?;
+    let room = Vec::with_capacity(alloc, room_beside(parts.len(), size))?;
+    let mut works = cut(alloc, arena, shape, parts.as_slice(), size)?;
     each_mut(rt, alloc, works.as_mut_slice(), workers, gate);
-    join(works, &mut routed);
-    Ok(ItemList::from_vec(routed))
+    Ok(ItemList::from_vec(join(works, room)))
 }

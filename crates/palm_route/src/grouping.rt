@@ -1,11 +1,11 @@
 // Parts put together by leaf.
-ghost use Rattle.std.specs.Prelude.{◌≡◌, ◌<◌, List, length, map, slice_index_or, slice_set, Some, None, IfOk, OnOk, IsPermutation, IsSortedByKey};
-ghost use Rattle.std.specs.List.{AllByRecursion, IsDistinct};
+ghost use Rattle.std.specs.Prelude.{◌≡◌, ◌<◌, List, length, map, ◌≤◌, IfOk, OnOk, IsPermutation, IsSortedByKey};
+ghost use Rattle.std.specs.List.{AllByRecursion};
 ghost use Rattle.std.specs.List.Sorted.{IsStableByKey};
 ghost use Rattle.std.specs.Ordering.{nat_cmp};
 ghost use Rattle.palm_arena.specs.Leaves.{LeafPlace};
 ghost use Rattle.palm_route.specs.Groups.{IsRoutedTo, LowsRise, groups_of};
-ghost use Rattle.palm_route.specs.Marks.{marks_from, part_at, same_place};
+ghost use Rattle.palm_route.specs.Marks.{marks_from, marked};
 ghost use Rattle.palm_route.specs.declared.part.Routed.{Routed};
 ghost use Rattle.palm_route.specs.Runs.{group_with, with_routed, runs_of};
 
@@ -74,72 +74,73 @@ fn sort<R: Threads + Sync>(rt: &R, alloc: Global, marks: &mut [Mark]) -> Result<
     sort_many(rt, alloc, marks)
 }
 
-// A group of one part.
-fn group_of(alloc: Global, routed: Routed) -> Result<Group, NoMemory>
-    ensures { IfOk result (λ group. group ≡ group_with routed) }
+// How many marks, from the first on, are of the first one's leaf.
+fn run_length(marks: &[Mark]) -> usize
+    ensures { result ≤ length marks.now }
 {
-    let Routed {
-        part,
-        leaf,
-        path,
-        low,
-    } = routed;
-    let mut parts = PartList::new(alloc);
-    parts.push(part)?;
+    for (i, mark) in marks.iter().enumerate() {
+        if mark.low != marks[0].low {
+            return i;
+        }
+    }
+    marks.len()
+}
+
+// How many runs of marks there are, each of one leaf.
+fn run_count(marks: &[Mark]) -> usize
+    ensures { result ≤ length marks.now }
+{
+    let mut count = 0;
+    for i in 0..marks.len() {
+        if i == 0 || marks[i].low != marks[i - 1].low {
+            count += 1;
+        }
+    }
+    count
+}
+
+// A group of one part, with room for as many as there are marks of its leaf.
+fn group_of(alloc: Global, routed: &Routed, marks: &[Mark]) -> Result<Group, NoMemory>
+    ensures { IfOk result (λ group. group ≡ group_with routed.now) }
+{
+    let mut parts = Vec::with_capacity(alloc, run_length(marks))?;
+    parts.push(routed.part.copy())?;
     Ok(Group {
-        leaf,
-        path,
-        low,
-        parts,
+        leaf: routed.leaf,
+        path: routed.path.copy(),
+        low: routed.low,
+        parts: PartList::from_vec(parts),
     })
 }
 
-// Puts a part to the last group where that is its leaf's, and else in a group of its own.
-fn add(alloc: Global, groups: &mut Vec<Group>, routed: Routed) -> Result<(), NoMemory>
-    ensures ok { OnOk result (groups.new.items ≡ with_routed groups.old.items routed) }
+// Puts a part to the last group where that is its leaf's, and else in a group of its own. The marks are the part's own and
+// those behind it.
+fn add(
+    alloc: Global,
+    groups: &mut Vec<Group>,
+    routed: &Routed,
+    marks: &[Mark],
+) -> Result<(), NoMemory>
+    ensures ok { OnOk result (groups.new.items ≡ with_routed groups.old.items routed.now) }
 {
     if let Some(last) = groups.last_mut() {
         if last.low == routed.low {
-            last.parts.push(routed.part)?;
+            last.parts.push(routed.part.copy())?;
             return Ok(());
         }
     }
-    groups.push(group_of(alloc, routed)?)?;
+    groups.push(group_of(alloc, routed, marks)?)?;
     Ok(())
 }
 
-// The parts, each where it can be taken out.
-fn slots_of(alloc: Global, routed: RoutedList) -> Result<Vec<Option<Routed>>, NoMemory>
-    ensures { IfOk result (λ slots. slots.items ≡ map (λ one. Some one) routed) }
+// Puts parts together in the order of these marks, which come leaf by leaf.
+fn runs(alloc: Global, routed: &[Routed], marks: &[Mark]) -> Result<Groups, NoMemory>
+    requires { AllByRecursion (λ mark. mark.place < length routed.now) marks.now }
+    ensures { IfOk result (λ groups. groups ≡ runs_of (map (marked routed.now) marks.now)) }
 {
-    let mut slots = Vec::with_capacity(alloc, routed.len())?;
-    for one in routed.into_vec() {
-        slots.push(Some(one))?;
-    }
-    Ok(slots)
-}
-
-// Takes the part out that stands at a place.
-fn take_at(slots: &mut [Option<Routed>], place: usize) -> Option<Routed>
-    requires { place < length slots.old }
-    ensures taken { result ≡ slice_index_or slots.old place None }
-    ensures left { slots.new ≡ slice_set slots.old place None }
-{
-    slots[place].take()
-}
-
-// Puts parts together in the order of these marks, which come leaf by leaf. It takes each marked part out.
-fn runs(alloc: Global, slots: &mut [Option<Routed>], marks: &[Mark]) -> Result<Groups, NoMemory>
-    requires once { IsDistinct same_place marks.now }
-    requires there { (parts : List Routed) × (map (part_at slots.old) marks.now ≡ map (λ one. Some one) parts) }
-    ensures { IfOk result (λ groups. (parts : List Routed) → map (part_at slots.old) marks.now ≡ map (λ one. Some one) parts → groups ≡ runs_of parts) }
-{
-    let mut groups = Vec::new(alloc);
-    for mark in marks {
-        let Some(one) = take_at(slots, mark.place) else {
-            unreachable!()
-        };
-        add(alloc, &mut groups, one)?;
+    let mut groups = Vec::with_capacity(alloc, run_count(marks))?;
+    for (i, mark) in marks.iter().enumerate() {
+        add(alloc, &mut groups, &routed[mark.place], &marks[i..])?;
     }
     Ok(Groups::from_list(groups))
 }
@@ -155,6 +156,5 @@ pub fn group<R: Threads + Sync>(
 {
     let mut marks = marks_of(alloc, routed.as_slice())?;
     sort(rt, alloc, marks.as_mut_slice())?;
-    let mut slots = slots_of(alloc, routed)?;
-    runs(alloc, slots.as_mut_slice(), marks.as_slice())
+    runs(alloc, routed.as_slice(), marks.as_slice())
 }

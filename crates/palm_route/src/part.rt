@@ -39,6 +39,20 @@ pub struct Part {
     pub ask: Ask,
 }
 
+impl Part {
+    // The same part once more.
+    pub(crate) fn copy(&self) -> Part
+        ensures { result ≡ self.now }
+    {
+        Part {
+            entry: self.entry,
+            number: self.number,
+            key: self.key,
+            ask: self.ask,
+        }
+    }
+}
+
 /// A part with the leaf whose range has its key.
 #[derive(Debug, Drop)]
 pub struct Routed {

@@ -7,7 +7,7 @@ use Rattle.palm_route.proofs.descent.cut.Goals as goal
 
 pub returns-clause-shares : goal.returns-clause-shares
 returns-clause-shares c =
-    let rest = c.loop-alloc.rest in
-    let none = eqb-true _ 0 (sym c.is_empty.ensures ∙ c.loop-alloc-test.false) in
-    subst (λ (shares : List (List Part)). AreCut c.args.size c.args.parts shares) (append-nil (map share_of c.loop-alloc.works.items))
-    (c.loop-alloc.invariant.more [] (nil_from_length rest.items (omega (arith, none, rest.ok.0))))
+    let rest = c.loop-rest.rest in
+    let none = eqb-true _ 0 (sym c.is_empty.ensures ∙ c.loop-rest-test.false) in
+    subst (λ (shares : List (List Part)). AreCut c.args.size c.args.parts.now shares) (append-nil (map share_of c.loop-rest.works.items))
+    (c.loop-rest.invariant.more [] (nil_from_length rest.now (omega (arith, none))))

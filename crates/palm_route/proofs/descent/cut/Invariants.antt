@@ -7,11 +7,11 @@ use Rattle.palm_route.specs.Shares.{HasRoom, AreCut, share_of}
 use Rattle.palm_route.proofs.descent.cut.Given as goal
 
 -- shares of the rest complete the shares of all parts, and each share so far is there to be routed
-abbrev pub invariant-loop-alloc : goal.invariant-loop-alloc
-invariant-loop-alloc l = record {
-  more : (shares : List (List Part)) → AreCut l.size l.rest.items shares → AreCut l.size l.fn.parts (map share_of l.works.items ++ shares);
+abbrev pub invariant-loop-rest : goal.invariant-loop-rest
+invariant-loop-rest l = record {
+  more : (shares : List (List Part)) → AreCut l.size l.rest shares → AreCut l.size l.fn.parts (map share_of l.works.items ++ shares);
   begin : AllByRecursion (Holds (λ (work : DescentWork). (work.arena.now ≡ l.arena) × (work.shape ≡ l.shape) × HasRoom work)) l.works.items;
 }
 
-abbrev pub decreases-loop-alloc : goal.decreases-loop-alloc
-decreases-loop-alloc l = length l.rest.items
+abbrev pub decreases-loop-rest : goal.decreases-loop-rest
+decreases-loop-rest l = length l.rest

@@ -3,7 +3,7 @@ use Rattle.std.proofs.lemmas.Iterator.Adapters.{YieldsList-from_vec}
 use Rattle.std.proofs.lemmas.Iterator.Consumers.{YieldsList-so_far, YieldsList-turn}
 use Rattle.palm_route.specs.Shares.{routed_of}
 use Rattle.palm_route.proofs.CutShares.{next_fits}
-use Rattle.palm_route.proofs.descent.join.Goals as goal
+use Rattle.palm_route.proofs.descent.append_all.Goals as goal
 
 pub unreachable-requires-in_default-append : goal.unreachable-requires-in_default-append
 unreachable-requires-in_default-append c =

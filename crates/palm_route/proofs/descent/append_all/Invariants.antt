@@ -2,7 +2,7 @@ use Rattle.std.proofs.Common.{◌≡◌, ◌≤◌, length}
 use Rattle.std.specs.List.{flat_map}
 use Rattle.std.specs.Vec.{vec_capacity}
 use Rattle.palm_route.specs.Shares.{routed_of}
-use Rattle.palm_route.proofs.descent.join.Given as goal
+use Rattle.palm_route.proofs.descent.append_all.Given as goal
 
 -- the routed parts so far are moved, and there is room for all
 abbrev pub invariant-loop-work : goal.invariant-loop-work
