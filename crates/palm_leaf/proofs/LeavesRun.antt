@@ -1,5 +1,5 @@
 -- Lent leaves are run, given back and settled, one beside another.
-use Rattle.std.proofs.Common.{◌≡◌, ℕ, zero, suc, ◌+◌, ◌-◌, ◌≤◌, true, false, List, [], ◌∷◌, ◌++◌, length, map, None, Some, refl, sym, ap, ◌∙◌, subst, arith, Bool}
+use Rattle.std.proofs.Common.{Bor, ◌≡◌, ℕ, zero, suc, ◌+◌, ◌-◌, ◌≤◌, true, false, List, [], ◌∷◌, ◌++◌, length, map, None, Some, refl, sym, ap, ◌∙◌, subst, arith, Bool}
 use Rattle.std.specs.Prelude.{Option, reverse, sum_by}
 use Rattle.std.specs.List.{flat_map, AllByRecursion, AllZip}
 use Rattle.std.proofs.lemmas.List.{reverse-append, reverse-reverse}
@@ -48,7 +48,7 @@ ended nodes least group before after loaded run =
     record {
       id = worked.id ∙ loaded.id;
       leaf = worked.leaf;
-      path = worked.path ∙ loaded.path;
+      path = ap (λ (path : Bor (List (NodeId × ℕ))). path.now) worked.path ∙ loaded.path;
       few = omega (arith, worked.few, count, before.plan.asked.ok.0, after.plan.later.ok.0);
       answers = worked.answers ∙ ap (answers_in rows) loaded.parts;
       outcome =
@@ -112,7 +112,7 @@ ends_are start nodes least (group ∷ groups) (work ∷ works) all held =
     let rows : rows_at nodes work.lease.id ≡ rows_in_node (Some work.lease.node) = ap rows_in_node held.0 in
     let outcome = ap (λ (rows : List Row). outcome_of_plan rows work.plan) rows ∙ all.0.outcome in
     let one : end_of_done nodes (done_of work) ≡ end_of start least group =
-    ap (λ (id : NodeId). let e : LeafEnd = record { node = id; path = work.plan.path; outcome = outcome_of_plan (rows_at nodes work.lease.id) work.plan } in e) all.0.id
+    ap (λ (id : NodeId). let e : LeafEnd = record { node = id; path = work.plan.path.now; outcome = outcome_of_plan (rows_at nodes work.lease.id) work.plan } in e) all.0.id
     ∙ ap (λ (path : List (NodeId × ℕ)). let e : LeafEnd = record { node = group.leaf; path = path; outcome = outcome_of_plan (rows_at nodes work.lease.id) work.plan } in e) all.0.path
     ∙ ap (λ (o : _). let e : LeafEnd = record { node = group.leaf; path = group.path; outcome = o } in e) outcome in
     ap (λ (end : LeafEnd). end ∷ map (end_of_done nodes) (map done_of works)) one ∙ ap (λ (ends : List LeafEnd). end_of start least group ∷ ends) (ends_are start nodes least groups works all.1 held.1)

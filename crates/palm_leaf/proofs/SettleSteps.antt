@@ -94,7 +94,7 @@ one_settled start places next all left before done gathered more others popped f
     let same : rows_at (map_of places) done.id ≡ rows_at (map_of start) done.id = ap rows_in_node held in
     let end = end_of_done (map_of start) done in
     let as_end : end_of_done (map_of places) done ≡ end =
-    ap (λ (rows : List Row). let e : LeafEnd = record { node = done.id; path = done.plan.path; outcome = outcome_of_plan rows done.plan } in e) same in
+    ap (λ (rows : List Row). let e : LeafEnd = record { node = done.id; path = done.plan.path.now; outcome = outcome_of_plan rows done.plan } in e) same in
     let ids = ended.ids in
     let turned : Turns (map_of places) (map_of next) (leaf_cell (map_of start) done.id ∷ []) (leaf_cells ids end.outcome.pieces) =
     subst (λ (e : LeafEnd). Turns (map_of places) (map_of next) (leaf_cell (map_of start) done.id ∷ []) (leaf_cells ids e.outcome.pieces)) as_end

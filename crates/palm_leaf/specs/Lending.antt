@@ -49,7 +49,7 @@ pub record IsLoaded (nodes : NodeId → Option Node) (least : ℕ) (group : Grou
   pub leaf : work.lease.node ≡ Leaf (rows_at nodes group.leaf)
   pub plan : IsPlan work.plan
   pub parts : parts_of_plan work.plan ≡ group.parts
-  pub path : work.plan.path ≡ group.path
+  pub path : work.plan.path.now ≡ group.path
   pub low : work.plan.low ≡ written_low group.path group.low
   pub least-is : work.plan.least ≡ least
 
@@ -57,7 +57,7 @@ pub record IsLoaded (nodes : NodeId → Option Node) (least : ℕ) (group : Grou
 pub record IsEnded (nodes : NodeId → Option Node) (least : ℕ) (group : Group) (work : LeafWork) : Type 0 where
   pub id : work.lease.id ≡ group.leaf
   pub leaf : (left : List Row) × (work.lease.node ≡ Leaf left)
-  pub path : work.plan.path ≡ group.path
+  pub path : work.plan.path.now ≡ group.path
   pub few : length work.plan.later.items ≤ length group.parts
   pub answers : answers_of_plan work.plan ≡ answers_in (rows_at nodes group.leaf) group.parts
   pub outcome : outcome_of_plan (rows_in_node (Some work.lease.node)) work.plan ≡ (end_of nodes least group).outcome

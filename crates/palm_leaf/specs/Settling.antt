@@ -20,7 +20,7 @@ done_of work = record { id = work.lease.id; plan = work.plan }
 
 -- What becomes of it: its outcome is the one that its plan shows.
 abbrev pub end_of_done : (NodeId → Option Node) → LeafDone → LeafEnd
-end_of_done nodes done = record { node = done.id; path = done.plan.path; outcome = outcome_of_plan (rows_at nodes done.id) done.plan }
+end_of_done nodes done = record { node = done.id; path = done.plan.path.now; outcome = outcome_of_plan (rows_at nodes done.id) done.plan }
 
 -- Such leaves as cells.
 abbrev pub done_cells : (NodeId → Option Node) → List LeafDone → List Cell

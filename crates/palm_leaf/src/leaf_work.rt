@@ -23,9 +23,9 @@ pub struct NewLeaf {
 
 /// What is to be done with a leaf, with room for all that comes of it.
 #[derive(Debug, Drop)]
-pub struct LeafPlan {
-    /// The way to the leaf from the root.
-    pub path: Path,
+pub struct LeafPlan<'a> {
+    /// The way to the leaf from the root, which stays with the leaf's group: it is as wide as a node.
+    pub path: &'a Path,
     /// The leaf's low, as its parent has written it.
     pub low: u64,
     /// With fewer rows than this, but some, the leaf is removed.
@@ -42,9 +42,9 @@ pub struct LeafPlan {
 
 /// A lent leaf with its plan. It can't be dropped, since its lease has to be given back.
 #[derive(Debug)]
-pub struct LeafWork {
+pub struct LeafWork<'a> {
     pub lease: Lease,
-    pub plan: LeafPlan,
+    pub plan: LeafPlan<'a>,
 }
 
 // Lists the rows of a leaf, for which there is room.
@@ -81,7 +81,7 @@ pub fn cut_later(rows: &[Row], later: &mut Vec<NewLeaf>)
     }
 }
 
-impl LeafPlan {
+impl LeafPlan<'_> {
     // Whether the leaf stands on: rows are left, and not too few.
     fn stays(&self) -> bool
         ensures kept { result ≡ true → (0 < length self.now.rows.items) × (is_small self.now.least self.now.rows.items ≡ false) }
@@ -92,7 +92,7 @@ impl LeafPlan {
 }
 
 /// Lists the rows of a leaf and resolves the parts on them.
-pub fn resolve_parts(node: &Node, plan: &mut LeafPlan)
+pub fn resolve_parts(node: &Node, plan: &mut LeafPlan<'_>)
     requires leaf { (rows : List Row) × (node.now ≡ Node.Leaf rows) }
     requires plan { IsPlan plan.old }
     ensures resolved { IsResolved (rows_in_node (Some node.now)) plan.old plan.new }
@@ -106,7 +106,7 @@ pub fn resolve_parts(node: &Node, plan: &mut LeafPlan)
 }
 
 // Writes the first of the rows into the leaf, and cuts the others into later ones.
-fn keep(lease: &mut Lease, plan: &mut LeafPlan)
+fn keep(lease: &mut Lease, plan: &mut LeafPlan<'_>)
     requires some { 0 < length plan.old.rows.items }
     requires table { IsTable plan.old.rows.items }
     requires none { plan.old.later.items ≡ [] }
@@ -123,7 +123,7 @@ fn keep(lease: &mut Lease, plan: &mut LeafPlan)
     plan.kept = true;
 }
 
-impl Job for LeafWork {
+impl Job for LeafWork<'_> {
     ghost ready = { IsReady };
 
     ghost ran = { HasRun };

@@ -39,7 +39,7 @@ fn least_rows(shape: Shape) -> usize
 fn run_works<R: Threads + Sync, G: Gate + Sync>(
     rt: &R,
     alloc: Global,
-    works: &mut Vec<Option<LeafWork>>,
+    works: &mut Vec<Option<LeafWork<'_>>>,
     workers: u32,
     gate: &G,
 )
@@ -57,7 +57,7 @@ fn work_leaves<R: Threads + Sync, G: Gate + Sync, L: Ledger>(
     rt: &R,
     alloc: Global,
     arena: &mut Arena,
-    groups: Vec<Group>,
+    groups: &[Group],
     least: usize,
     workers: u32,
     gate: &G,
@@ -67,11 +67,11 @@ fn work_leaves<R: Threads + Sync, G: Gate + Sync, L: Ledger>(
     requires none_lent { NoneLent arena.old.places }
     requires some { 1 ≤ workers }
     requires few { workers ≤ MOST_WORKERS }
-    requires groups { HasGroups (map_of arena.old.places) groups.items }
-    ensures done { IfOk result (λ gathered. LeavesDone (map_of arena.old.places) (map_of arena.new.places) least groups.items gathered) }
+    requires groups { HasGroups (map_of arena.old.places) groups.now }
+    ensures done { IfOk result (λ gathered. LeavesDone (map_of arena.old.places) (map_of arena.new.places) least groups.now gathered) }
     ensures begun { arena.new.begun ≡ arena.old.begun }
     ensures none_lent { NoneLent arena.new.places }
-    ensures ticks { steps.new ≤ steps.old + 2 * parts_in groups.items }
+    ensures ticks { steps.new ≤ steps.old + 2 * parts_in groups.now }
     ensures moved { length arena.new.moved + steps.old ≤ length arena.old.moved + steps.new }
 {
     let mut done = Vec::with_capacity(alloc, groups.len())?;
@@ -122,16 +122,8 @@ pub fn change_leaves<R: Threads + Sync, G: Gate + Sync, L: Ledger>(
     ensures moved { length arena.new.moved + steps.old ≤ length arena.old.moved + steps.new }
 {
     let least = least_rows(shape);
-    let gathered = work_leaves(
-        rt,
-        alloc,
-        arena,
-        groups.into_list(),
-        least,
-        workers,
-        gate,
-        steps,
-    )?;
+    let groups = groups.into_list();
+    let gathered = work_leaves(rt, alloc, arena, &groups, least, workers, gate, steps)?;
     let Gathered {
         answers,
         nodes,

@@ -23,24 +23,24 @@ use std::sync::ledger::Ledger;
 
 /// A leaf that was given back, with what came of its plan.
 #[derive(Debug, Drop)]
-pub struct LeafDone {
+pub struct LeafDone<'a> {
     pub id: NodeId,
-    pub plan: LeafPlan,
+    pub plan: LeafPlan<'a>,
 }
 
 // Lends a group's leaf with its plan. The arena is unchanged where memory was refused.
-fn lend_leaf<L: Ledger>(
+fn lend_leaf<'a, L: Ledger>(
     alloc: Global,
     arena: &mut Arena,
-    group: Group,
+    group: &'a Group,
     least: usize,
     steps: &mut Steps<L>,
-) -> Result<LeafWork, NoMemory>
+) -> Result<LeafWork<'a>, NoMemory>
     requires under_way { IsSome arena.old.begun }
-    requires leaf { (rows : List Row) × (node_at arena.old.places group.leaf ≡ Some (Leaf rows)) }
-    requires keys { AllByRecursion HasKey group.parts }
-    ensures work { IfOk result (λ work. IsLoaded (map_of arena.old.places) least group work) }
-    ensures ok { OnOk result (arena.new ≡ record arena.old { places = with_place arena.old.places group.leaf Lent; moved = arena.old.moved ++ group.leaf ∷ [] }) }
+    requires leaf { (rows : List Row) × (node_at arena.old.places group.now.leaf ≡ Some (Leaf rows)) }
+    requires keys { AllByRecursion HasKey group.now.parts }
+    ensures work { IfOk result (λ work. IsLoaded (map_of arena.old.places) least group.now work) }
+    ensures ok { OnOk result (arena.new ≡ record arena.old { places = with_place arena.old.places group.now.leaf Lent; moved = arena.old.moved ++ group.now.leaf ∷ [] }) }
     ensures err { OnErr result (arena.new ≡ arena.old) }
     ensures tick { OnOk result (steps.new ≡ steps.old + 1) }
     ensures ticks { OnErr result ((steps.old ≤ steps.new) × (steps.new ≤ steps.old + 1)) }
@@ -52,27 +52,27 @@ fn lend_leaf<L: Ledger>(
 }
 
 /// Lends the leaves of groups, each with its plan. Where memory was refused those that are listed are lent.
-pub fn lend_leaves<L: Ledger>(
+pub fn lend_leaves<'a, L: Ledger>(
     alloc: Global,
     arena: &mut Arena,
-    groups: Vec<Group>,
+    groups: &'a [Group],
     least: usize,
-    works: &mut Vec<Option<LeafWork>>,
+    works: &mut Vec<Option<LeafWork<'a>>>,
     steps: &mut Steps<L>,
 ) -> Result<(), NoMemory>
     requires under_way { IsSome arena.old.begun }
     requires none_lent { NoneLent arena.old.places }
-    requires leaves { (others : List Cell) × Owns (map_of arena.old.places) (group_cells (map_of arena.old.places) groups.items ++ others) }
-    requires keys { AllByRecursion (λ group. AllByRecursion HasKey group.parts) groups.items }
+    requires leaves { (others : List Cell) × Owns (map_of arena.old.places) (group_cells (map_of arena.old.places) groups.now ++ others) }
+    requires keys { AllByRecursion (λ group. AllByRecursion HasKey group.parts) groups.now }
     requires none { works.old.items ≡ [] }
-    requires room { vec_len groups ≤ vec_capacity works.old }
+    requires room { length groups.now ≤ vec_capacity works.old }
     ensures works { OnOk result (map Some (present works.new.items) ≡ works.new.items) }
-    ensures loaded { OnOk result (Matched (IsLoaded (map_of arena.old.places) least) groups.items (present works.new.items)) }
-    ensures turned { OnOk result (Turns (map_of arena.old.places) (map_of arena.new.places) (group_cells (map_of arena.old.places) groups.items) []) }
+    ensures loaded { OnOk result (Matched (IsLoaded (map_of arena.old.places) least) groups.now (present works.new.items)) }
+    ensures turned { OnOk result (Turns (map_of arena.old.places) (map_of arena.new.places) (group_cells (map_of arena.old.places) groups.now) []) }
     ensures lent { LentAre arena.new.places (lease_ids (present works.new.items)) }
     ensures begun { arena.new.begun ≡ arena.old.begun }
-    ensures few { vec_len works.new ≤ vec_len groups }
-    ensures ticks { steps.new ≤ steps.old + vec_len groups }
+    ensures few { vec_len works.new ≤ length groups.now }
+    ensures ticks { steps.new ≤ steps.old + length groups.now }
     ensures moved { length arena.new.moved + steps.old ≤ length arena.old.moved + steps.new }
 {
     for group in groups {
@@ -82,10 +82,10 @@ pub fn lend_leaves<L: Ledger>(
 }
 
 // Gives a leaf back as its work left it.
-fn give_back(arena: &mut Arena, work: LeafWork) -> LeafDone
+fn give_back<'a>(arena: &mut Arena, work: LeafWork<'a>) -> LeafDone<'a>
     requires { IsLent arena.old.places work.lease.id }
-    ensures done { result ≡ done_of work }
-    ensures arena { arena.new ≡ record arena.old { places = with_place arena.old.places work.lease.id (Holds work.lease.node) } }
+    ensures done { result ≡ done_of work.entry }
+    ensures arena { arena.new ≡ record arena.old { places = with_place arena.old.places work.entry.lease.id (Holds work.entry.lease.node) } }
 {
     let LeafWork { lease, plan } = work;
     let id = lease.id();
@@ -94,16 +94,16 @@ fn give_back(arena: &mut Arena, work: LeafWork) -> LeafDone
 }
 
 /// Gives all leaves back, and lists them from the last to the first.
-pub fn give_leaves_back(
+pub fn give_leaves_back<'a>(
     arena: &mut Arena,
-    mut works: Vec<Option<LeafWork>>,
-    done: &mut Vec<LeafDone>,
+    mut works: Vec<Option<LeafWork<'a>>>,
+    done: &mut Vec<LeafDone<'a>>,
 )
     requires lent { LentAre arena.old.places (lease_ids (present works.items)) }
     requires none { done.old.items ≡ [] }
     requires room { vec_len works ≤ vec_capacity done.old }
-    ensures done { done.new.items ≡ map done_of (reverse (present works.items)) }
-    ensures turned { Turns (map_of arena.old.places) (map_of arena.new.places) [] (map lease_cell (reverse (present works.items))) }
+    ensures done { done.new.items ≡ map done_of (reverse (present works.entry.items)) }
+    ensures turned { Turns (map_of arena.old.places) (map_of arena.new.places) [] (map lease_cell (reverse (present works.entry.items))) }
     ensures none_lent { NoneLent arena.new.places }
     ensures begun { arena.new.begun ≡ arena.old.begun }
     ensures moved { arena.new.moved ≡ arena.old.moved }

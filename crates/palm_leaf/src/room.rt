@@ -10,12 +10,12 @@ use crate::leaf_work::LeafPlan;
 use crate::rows::Asked;
 use palm_base::{MOST_LEAF_ROWS, NoMemory};
 use palm_node::{Path, pieces};
-use palm_route::{Ask, Group, Part, PartList};
+use palm_route::{Ask, Group, Part};
 use std::alloc::Global;
 
 // A part with room for what it may find among `most` rows.
-fn ask(alloc: Global, part: Part, most: usize) -> Result<Asked, NoMemory>
-    ensures part { IfOk result (λ asked. asked.part ≡ part) }
+fn ask(alloc: Global, part: &Part, most: usize) -> Result<Asked, NoMemory>
+    ensures part { IfOk result (λ asked. asked.part ≡ part.now) }
     ensures room { IfOk result (λ asked. HasRoom most asked) }
 {
     let found = match &part.ask {
@@ -23,19 +23,19 @@ fn ask(alloc: Global, part: Part, most: usize) -> Result<Asked, NoMemory>
         Ask::Set(_) | Ask::Del | Ask::Look => Vec::new(alloc),
     };
     Ok(Asked {
-        part,
+        part: part.copy(),
         rate: None,
         found,
     })
 }
 
 // The parts of a leaf, each with room for what it may find among `most` rows.
-fn ask_all(alloc: Global, parts: PartList, most: usize) -> Result<Vec<Asked>, NoMemory>
-    ensures parts { IfOk result (λ asked. map part_of asked.items ≡ parts) }
+fn ask_all(alloc: Global, parts: &[Part], most: usize) -> Result<Vec<Asked>, NoMemory>
+    ensures parts { IfOk result (λ asked. map part_of asked.items ≡ parts.now) }
     ensures room { IfOk result (λ asked. AllByRecursion (HasRoom most) asked.items) }
 {
     let mut all = Vec::with_capacity(alloc, parts.len())?;
-    for part in parts.into_vec() {
+    for part in parts {
         all.push_reserved(ask(alloc, part, most)?);
     }
     Ok(all)
@@ -65,12 +65,12 @@ fn most_rows(count: usize) -> Result<usize, NoMemory>
 
 /// The plan for a group's leaf, which is removed where it is left with some rows, but fewer than `least`. `NoMemory` where
 /// room was refused.
-pub fn plan(alloc: Global, group: Group, least: usize) -> Result<LeafPlan, NoMemory>
-    requires { AllByRecursion HasKey group.parts }
+pub fn plan<'a>(alloc: Global, group: &'a Group, least: usize) -> Result<LeafPlan<'a>, NoMemory>
+    requires { AllByRecursion HasKey group.now.parts }
     ensures plan { IfOk result (λ plan. IsPlan plan) }
-    ensures parts { IfOk result (λ plan. parts_of_plan plan ≡ group.parts) }
-    ensures path { IfOk result (λ plan. plan.path ≡ group.path) }
-    ensures low { IfOk result (λ plan. plan.low ≡ written_low group.path group.low) }
+    ensures parts { IfOk result (λ plan. parts_of_plan plan ≡ group.now.parts) }
+    ensures path { IfOk result (λ plan. plan.path.now ≡ group.now.path) }
+    ensures low { IfOk result (λ plan. plan.low ≡ written_low group.now.path group.now.low) }
     ensures least { IfOk result (λ plan. plan.least ≡ least) }
 {
     let count = group.parts.len();
@@ -79,10 +79,10 @@ pub fn plan(alloc: Global, group: Group, least: usize) -> Result<LeafPlan, NoMem
     let rows = Vec::with_capacity(alloc, most)?;
     let later = Vec::with_capacity(alloc, pieces(MOST_LEAF_ROWS, count))?;
     Ok(LeafPlan {
-        path: group.path,
+        path: &group.path,
         low,
         least,
-        asked: ask_all(alloc, group.parts, most)?,
+        asked: ask_all(alloc, group.parts.as_slice(), most)?,
         rows,
         later,
         kept: false,

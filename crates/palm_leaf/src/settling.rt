@@ -81,7 +81,7 @@ fn settle_kept<L: Ledger>(
     alloc: Global,
     arena: &mut Arena,
     first: Piece,
-    path: Path,
+    path: &Path,
     later: Vec<NewLeaf>,
     gathered: &mut Gathered,
     steps: &mut Steps<L>,
@@ -89,7 +89,7 @@ fn settle_kept<L: Ledger>(
     requires under_way { IsSome arena.old.begun }
     requires none_lent { NoneLent arena.old.places }
     requires leaf { (rows : List Row) × (node_at arena.old.places first.id ≡ Some (Leaf rows)) }
-    ensures end { OnOk result (EndsAs (map_of arena.old.places) (map_of arena.new.places) (record { node = first.id; path = path; outcome = record { pieces = (first.low, rows_at (map_of arena.old.places) first.id) ∷ map low_and_rows later.items; loose = [] } }) gathered.old gathered.new) }
+    ensures end { OnOk result (EndsAs (map_of arena.old.places) (map_of arena.new.places) (record { node = first.id; path = path.now; outcome = record { pieces = (first.low, rows_at (map_of arena.old.places) first.id) ∷ map low_and_rows later.items; loose = [] } }) gathered.old gathered.new) }
     ensures begun { arena.new.begun ≡ arena.old.begun }
     ensures none_lent { NoneLent arena.new.places }
     ensures ticks { steps.new ≤ steps.old + length later.items }
@@ -100,7 +100,7 @@ fn settle_kept<L: Ledger>(
     take_later(arena, later, &mut pieces, steps)?;
     gathered.nodes.push(Change {
         node: first.id,
-        path,
+        path: path.copy(),
         pieces,
     })?;
     Ok(())
@@ -111,14 +111,14 @@ fn settle_removed(
     alloc: Global,
     arena: &mut Arena,
     id: NodeId,
-    path: Path,
+    path: &Path,
     rows: &[Row],
     gathered: &mut Gathered,
 ) -> Result<(), NoMemory>
     requires under_way { IsSome arena.old.begun }
     requires none_lent { NoneLent arena.old.places }
     requires leaf { (left : List Row) × (node_at arena.old.places id ≡ Some (Leaf left)) }
-    ensures end { OnOk result (EndsAs (map_of arena.old.places) (map_of arena.new.places) (record { node = id; path = path; outcome = record { pieces = []; loose = rows.now } }) gathered.old gathered.new) }
+    ensures end { OnOk result (EndsAs (map_of arena.old.places) (map_of arena.new.places) (record { node = id; path = path.now; outcome = record { pieces = []; loose = rows.now } }) gathered.old gathered.new) }
     ensures begun { arena.new.begun ≡ arena.old.begun }
     ensures none_lent { NoneLent arena.new.places }
     ensures moved { arena.new.moved ≡ arena.old.moved }
@@ -127,7 +127,7 @@ fn settle_removed(
     gathered.loose.extend_from_slice(rows)?;
     gathered.nodes.push(Change {
         node: id,
-        path,
+        path: path.copy(),
         pieces: PieceList::new(alloc),
     })?;
     Ok(())
@@ -137,17 +137,17 @@ fn settle_removed(
 fn settle<L: Ledger>(
     alloc: Global,
     arena: &mut Arena,
-    done: LeafDone,
+    done: LeafDone<'_>,
     gathered: &mut Gathered,
     steps: &mut Steps<L>,
 ) -> Result<(), NoMemory>
     requires under_way { IsSome arena.old.begun }
     requires none_lent { NoneLent arena.old.places }
     requires leaf { (rows : List Row) × (node_at arena.old.places done.id ≡ Some (Leaf rows)) }
-    ensures end { OnOk result (EndsWith (map_of arena.old.places) (map_of arena.new.places) done gathered.old gathered.new) }
+    ensures end { OnOk result (EndsWith (map_of arena.old.places) (map_of arena.new.places) done.entry gathered.old gathered.new) }
     ensures begun { arena.new.begun ≡ arena.old.begun }
     ensures none_lent { NoneLent arena.new.places }
-    ensures ticks { steps.new ≤ steps.old + length done.plan.later.items }
+    ensures ticks { steps.new ≤ steps.old + length done.entry.plan.later.items }
     ensures moved { length arena.new.moved + steps.old ≤ length arena.old.moved + steps.new }
 {
     let LeafDone { id, plan } = done;
@@ -177,26 +177,35 @@ fn settle<L: Ledger>(
     Ok(())
 }
 
+// How many parts the leaves have in all.
+fn part_count(done: &[LeafDone<'_>]) -> usize {
+    let mut count: usize = 0;
+    for leaf in done {
+        count = count.saturating_add(leaf.plan.asked.len());
+    }
+    count
+}
+
 /// Settles all leaves, which are listed from the last to the first.
 pub fn settle_leaves<L: Ledger>(
     alloc: Global,
     arena: &mut Arena,
-    mut done: Vec<LeafDone>,
+    mut done: Vec<LeafDone<'_>>,
     steps: &mut Steps<L>,
 ) -> Result<Gathered, NoMemory>
     requires under_way { IsSome arena.old.begun }
     requires none_lent { NoneLent arena.old.places }
     requires leaves { (others : List Cell) × Owns (map_of arena.old.places) (done_cells (map_of arena.old.places) (reverse done.items) ++ others) }
-    ensures ends { IfOk result (λ gathered. LeavesEnd (map_of arena.old.places) (map_of arena.new.places) (done_cells (map_of arena.old.places) (reverse done.items)) (map (end_of_done (map_of arena.old.places)) (reverse done.items)) gathered.nodes gathered.loose.items) }
-    ensures answers { IfOk result (λ gathered. gathered.answers ≡ answers_of_done (reverse done.items)) }
+    ensures ends { IfOk result (λ gathered. LeavesEnd (map_of arena.old.places) (map_of arena.new.places) (done_cells (map_of arena.old.places) (reverse done.entry.items)) (map (end_of_done (map_of arena.old.places)) (reverse done.entry.items)) gathered.nodes gathered.loose.items) }
+    ensures answers { IfOk result (λ gathered. gathered.answers ≡ answers_of_done (reverse done.entry.items)) }
     ensures begun { arena.new.begun ≡ arena.old.begun }
     ensures none_lent { NoneLent arena.new.places }
-    ensures ticks { steps.new ≤ steps.old + sum_by (λ done. length done.plan.later.items) done.items }
+    ensures ticks { steps.new ≤ steps.old + sum_by (λ done. length done.plan.later.items) done.entry.items }
     ensures moved { length arena.new.moved + steps.old ≤ length arena.old.moved + steps.new }
 {
     let mut gathered = Gathered {
-        answers: AnswerList::new(alloc),
-        nodes: ChangeList::new(alloc),
+        answers: AnswerList::from_vec(Vec::with_capacity(alloc, part_count(&done))?),
+        nodes: ChangeList::from_vec(Vec::with_capacity(alloc, done.len())?),
         loose: Vec::new(alloc),
     };
     while let Some(leaf) = done.pop() {

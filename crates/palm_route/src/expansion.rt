@@ -176,7 +176,7 @@ pub fn expand(
     ensures parts { IfOk result (λ parts. parts ≡ parts_of (leaves_at (map_of arena.now.places) shape) 0 batch.now) }
     ensures prefixes { OnOk result (AllByRecursion (λ entry. EditsPrefix entry.call) batch.now) }
 {
-    let mut parts = PartList::new(alloc);
+    let mut parts = PartList::from_vec(Vec::with_capacity(alloc, batch.len())?);
     for (place, entry) in batch.iter().enumerate() {
         append_call(alloc, arena, shape, place as u64, &entry.call, &mut parts)?;
     }

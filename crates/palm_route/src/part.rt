@@ -40,8 +40,8 @@ pub struct Part {
 }
 
 impl Part {
-    // The same part once more.
-    pub(crate) fn copy(&self) -> Part
+    /// The same part once more.
+    pub fn copy(&self) -> Part
         ensures { result ≡ self.now }
     {
         Part {

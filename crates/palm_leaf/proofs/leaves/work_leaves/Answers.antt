@@ -12,13 +12,13 @@ pub run_works-requires-clause-ready : goal.run_works-requires-clause-ready
 run_works-requires-clause-ready g c lives bounds =
     let works = c.lend_leaves.new.works.items in
     All-from_recursion (Holds IsReady) works
-    (subst (AllByRecursion (Holds IsReady)) c.in-Ok.ensures.works (all_ready (map_of c.args.arena.now.places) c.args.least c.args.groups.items (present works) c.in-Ok.ensures.loaded))
+    (subst (AllByRecursion (Holds IsReady)) c.in-Ok.ensures.works (all_ready (map_of c.args.arena.now.places) c.args.least c.args.groups.now (present works) c.in-Ok.ensures.loaded))
 
 pub give_leaves_back-requires-clause-lent : goal.give_leaves_back-requires-clause-lent
 give_leaves_back-requires-clause-lent g c =
     let works = c.lend_leaves.new.works.items in
     let after = c.run_works.new.works.items in
-    let run = all_run (map_of c.args.arena.now.places) c.args.least c.args.groups.items (present works) after c.in-Ok.ensures.loaded (subst (λ ws. AllZip (Relates HasRun) ws after) (sym c.in-Ok.ensures.works) c.run_works.ensures.ran) in
+    let run = all_run (map_of c.args.arena.now.places) c.args.least c.args.groups.now (present works) after c.in-Ok.ensures.loaded (subst (λ ws. AllZip (Relates HasRun) ws after) (sym c.in-Ok.ensures.works) c.run_works.ensures.ran) in
     subst (LentAre c.lend_leaves.new.arena.places) (sym run.same) c.lend_leaves.ensures.lent
 
 pub settle_leaves-requires-clause-leaves : goal.settle_leaves-requires-clause-leaves
@@ -26,7 +26,7 @@ settle_leaves-requires-clause-leaves g c =
     let start = map_of c.args.arena.now.places in
     let lent = map_of c.lend_leaves.new.arena.places in
     let back = map_of c.give_leaves_back.new.arena.places in
-    let groups = c.args.groups.items in
+    let groups = c.args.groups.now in
     let works = c.lend_leaves.new.works.items in
     let after = c.run_works.new.works.items in
     let others = c.requires.groups.leaves.0 in
@@ -37,24 +37,24 @@ settle_leaves-requires-clause-leaves g c =
 pub returns-in_err-gathered-in-Ok-clause-ticks : goal.returns-in_err-gathered-in-Ok-clause-ticks
 returns-in_err-gathered-in-Ok-clause-ticks g c =
     let start = map_of c.args.arena.now.places in
-    let groups = c.args.groups.items in
+    let groups = c.args.groups.now in
     let works = c.lend_leaves.new.works.items in
     let after = c.run_works.new.works.items in
     let run = all_run start c.args.least groups (present works) after c.in-Ok.ensures.loaded (subst (λ ws. AllZip (Relates HasRun) ws after) (sym c.in-Ok.ensures.works) c.run_works.ensures.ran) in
     let few = later_few start c.args.least groups (present after) run.ends in
     let later = rw c.give_leaves_back.ensures.done at c.settle_leaves.ensures.ticks in
-    omega (arith, later, few, c.lend_leaves.ensures.ticks, some_parts groups c.requires.groups.some, c.args.groups.ok.0)
+    omega (arith, later, few, c.lend_leaves.ensures.ticks, some_parts groups c.requires.groups.some)
 
 pub returns-in_ok-gathered-in-Ok-clause-ticks : goal.returns-in_ok-gathered-in-Ok-clause-ticks
 returns-in_ok-gathered-in-Ok-clause-ticks g c =
     let start = map_of c.args.arena.now.places in
-    let groups = c.args.groups.items in
+    let groups = c.args.groups.now in
     let works = c.lend_leaves.new.works.items in
     let after = c.run_works.new.works.items in
     let run = all_run start c.args.least groups (present works) after c.in-Ok.ensures.loaded (subst (λ ws. AllZip (Relates HasRun) ws after) (sym c.in-Ok.ensures.works) c.run_works.ensures.ran) in
     let few = later_few start c.args.least groups (present after) run.ends in
     let later = rw c.give_leaves_back.ensures.done at c.settle_leaves.ensures.ticks in
-    omega (arith, later, few, c.lend_leaves.ensures.ticks, some_parts groups c.requires.groups.some, c.args.groups.ok.0)
+    omega (arith, later, few, c.lend_leaves.ensures.ticks, some_parts groups c.requires.groups.some)
 
 pub returns-in_ok-gathered-in-Ok-clause-done : goal.returns-in_ok-gathered-in-Ok-clause-done
 returns-in_ok-gathered-in-Ok-clause-done g c =
@@ -62,7 +62,7 @@ returns-in_ok-gathered-in-Ok-clause-done g c =
     let lent = map_of c.lend_leaves.new.arena.places in
     let back = map_of c.give_leaves_back.new.arena.places in
     let new = map_of c.settle_leaves.new.arena.places in
-    let groups = c.args.groups.items in
+    let groups = c.args.groups.now in
     let works = c.lend_leaves.new.works.items in
     let after = c.run_works.new.works.items in
     let run = all_run start c.args.least groups (present works) after c.in-Ok.ensures.loaded (subst (λ ws. AllZip (Relates HasRun) ws after) (sym c.in-Ok.ensures.works) c.run_works.ensures.ran) in
@@ -70,4 +70,4 @@ returns-in_ok-gathered-in-Ok-clause-done g c =
     c.in-Ok.ensures.turned c.give_leaves_back.ensures.turned c.give_leaves_back.ensures.done c.in_ok-gathered-in-Ok.ensures.ends c.in_ok-gathered-in-Ok.ensures.answers
 
 pub returns-in-Err-clause-ticks : goal.returns-in-Err-clause-ticks
-returns-in-Err-clause-ticks g c = omega (arith, c.lend_leaves.ensures.ticks, some_parts c.args.groups.items c.requires.groups.some, c.args.groups.ok.0)
+returns-in-Err-clause-ticks g c = omega (arith, c.lend_leaves.ensures.ticks, some_parts c.args.groups.now c.requires.groups.some)

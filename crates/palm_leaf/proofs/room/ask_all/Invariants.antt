@@ -1,12 +1,12 @@
-use Rattle.std.proofs.Common.{◌≡◌, ◌≤◌, map, vec_len, vec_capacity, length}
+use Rattle.std.proofs.Common.{◌≡◌, ◌≤◌, map, take, vec_len, vec_capacity, length}
 use Rattle.std.specs.List.{AllByRecursion}
 use Rattle.palm_leaf.specs.Asked.{part_of, HasRoom}
 use Rattle.palm_leaf.proofs.room.ask_all.Given as goal
 
 abbrev pub invariant-loop-part : goal.invariant-loop-part
 invariant-loop-part l = record {
-  parts : map part_of l.all.items ≡ l.yielded;
+  parts : map part_of l.all.items ≡ take l.part-index l.parts;
   room : AllByRecursion (HasRoom l.most) l.all.items;
-  len : vec_len l.all ≡ length l.yielded;
-  capacity : length l.fn.parts ≤ vec_capacity l.all;
+  len : vec_len l.all ≡ l.part-index;
+  capacity : length l.parts ≤ vec_capacity l.all;
 }

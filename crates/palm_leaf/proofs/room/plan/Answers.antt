@@ -11,7 +11,7 @@ pub returns-clause-plan : goal.returns-clause-plan
 returns-clause-plan c =
     let asked = c.in_ok-ask_all.field-0 in
     let count : vec_len asked ≡ c.len-count.result =
-    asked.ok.0 ∙ sym (length-map' part_of asked.items) ∙ ap length c.in_ok-ask_all.ensures.parts ∙ sym c.len-count.ensures in
+    asked.ok.0 ∙ sym (length-map' part_of asked.items) ∙ ap length (c.in_ok-ask_all.ensures.parts ∙ c.as_slice.ensures) ∙ sym c.len-count.ensures in
     let most : c.in_ok-most.most ≡ MOST_LEAF_ROWS + vec_len asked = c.in_ok-most.ensures ∙ ap (λ n. MOST_LEAF_ROWS + n) (sym count) in
     let counted : piece_count MOST_LEAF_ROWS c.len-count.result ≤ vec_capacity c.in_ok-later.later = omega (arith, c.pieces.ensures, c.in_ok-later.ensures.capacity) in
     record {
@@ -20,5 +20,5 @@ returns-clause-plan c =
       row_room = omega (arith, most, c.in_ok-rows.ensures.capacity);
       later_room = subst (λ n. piece_count MOST_LEAF_ROWS n ≤ vec_capacity c.in_ok-later.later) (sym count) counted;
       not_kept = refl;
-      waits = all_open _ asked.items c.args.group.parts c.in_ok-ask_all.ensures.parts c.requires (subst (λ n. AllByRecursion (HasRoom n) asked.items) most c.in_ok-ask_all.ensures.room);
+      waits = all_open _ asked.items c.args.group.now.parts (c.in_ok-ask_all.ensures.parts ∙ c.as_slice.ensures) c.requires (subst (λ n. AllByRecursion (HasRoom n) asked.items) most c.in_ok-ask_all.ensures.room);
     }
