@@ -104,7 +104,7 @@ pub fn change_level<R: Threads + Sync, G: Gate + Sync, L: Ledger>(
 {
     let planned = plan_all(alloc, arena, changes.nodes.as_slice())?;
     let mut made = Changes {
-        nodes: ChangeList::new(alloc),
+        nodes: ChangeList::from_vec(Vec::with_capacity(alloc, planned.len())?),
         loose: changes.loose.try_copy()?,
         removed: RemovedList::from_vec(Vec::from_slice(alloc, changes.removed.as_slice())?),
     };

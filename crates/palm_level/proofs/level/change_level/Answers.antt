@@ -38,12 +38,12 @@ returns-in-Ok-clause-stands g c = λ p levels s.
     let nodes = map_of c.args.arena.now.places in
     let keys : map planned_key c.in_ok-planned.planned.items ≡ map (touched_of nodes) (runs c.args.changes.now.nodes) =
     c.in_ok-planned.ensures.parents ∙ ap (λ (cs : List Change). map (touched_of nodes) (runs cs)) c.as_slice.ensures in
-    let removed = c.from_vec.ensures ∙ c.in_ok-from_slice.ensures.items ∙ c.as_slice-2.ensures in
-    let start : ◌≡◌ {A = Changes} (record { nodes = c.new.result; loose = c.in_ok-try_copy.field-0; removed = c.from_vec.result }) (record { nodes = []; loose = c.args.changes.now.loose; removed = c.args.changes.now.removed }) =
-    (λ i. record { nodes = c.new.ensures i; loose = c.in_ok-try_copy.ensures i; removed = removed i }) in
+    let removed = c.from_vec-2.ensures ∙ c.in_ok-from_slice.ensures.items ∙ c.as_slice-2.ensures in
+    let start : ◌≡◌ {A = Changes} (record { nodes = c.from_vec.result; loose = c.in_ok-try_copy.field-0; removed = c.from_vec-2.result }) (record { nodes = []; loose = c.args.changes.now.loose; removed = c.args.changes.now.removed }) =
+    (λ i. record { nodes = (c.from_vec.ensures ∙ c.in_ok-with_capacity.ensures.items) i; loose = c.in_ok-try_copy.ensures i; removed = removed i }) in
     (level_fits p c.args.level c.args.shape.levels nodes c.args.changes.now c.requires.level.0 c.requires.level.1 levels s).stands
     (map_of c.work_all-worked.new.arena.places) _ c.work_all-worked.new.made start
-    (subst (λ ts. HasWorked nodes c.args.level ts (map_of c.work_all-worked.new.arena.places) (record { nodes = c.new.result; loose = c.in_ok-try_copy.field-0; removed = c.from_vec.result }) c.work_all-worked.new.made) keys c.in-Ok.ensures.ok)
+    (subst (λ ts. HasWorked nodes c.args.level ts (map_of c.work_all-worked.new.arena.places) (record { nodes = c.from_vec.result; loose = c.in_ok-try_copy.field-0; removed = c.from_vec-2.result }) c.work_all-worked.new.made) keys c.in-Ok.ensures.ok)
 
 pub returns-in-Ok-clause-within : goal.returns-in-Ok-clause-within
 returns-in-Ok-clause-within g c = λ n within.
@@ -51,8 +51,8 @@ returns-in-Ok-clause-within g c = λ n within.
     let s = c.requires.stands in
     let keys : map planned_key c.in_ok-planned.planned.items ≡ map (touched_of nodes) (runs c.args.changes.now.nodes) =
     c.in_ok-planned.ensures.parents ∙ ap (λ (cs : List Change). map (touched_of nodes) (runs cs)) c.as_slice.ensures in
-    made_within n c.args.level nodes (map_of c.work_all-worked.new.arena.places) c.args.changes.now (record { nodes = c.new.result; loose = c.in_ok-try_copy.field-0; removed = c.from_vec.result }) c.work_all-worked.new.made c.new.ensures
-    (subst (λ ts. HasWorked nodes c.args.level ts (map_of c.work_all-worked.new.arena.places) (record { nodes = c.new.result; loose = c.in_ok-try_copy.field-0; removed = c.from_vec.result }) c.work_all-worked.new.made) keys c.in-Ok.ensures.ok)
+    made_within n c.args.level nodes (map_of c.work_all-worked.new.arena.places) c.args.changes.now (record { nodes = c.from_vec.result; loose = c.in_ok-try_copy.field-0; removed = c.from_vec-2.result }) c.work_all-worked.new.made (c.from_vec.ensures ∙ c.in_ok-with_capacity.ensures.items)
+    (subst (λ ts. HasWorked nodes c.args.level ts (map_of c.work_all-worked.new.arena.places) (record { nodes = c.from_vec.result; loose = c.in_ok-try_copy.field-0; removed = c.from_vec-2.result }) c.work_all-worked.new.made) keys c.in-Ok.ensures.ok)
     ((level_fits s.0 c.args.level c.args.shape.levels nodes c.args.changes.now c.requires.level.0 c.requires.level.1 s.1 s.2).few n within)
 
 pub returns-in-Ok-clause-ticks : goal.returns-in-Ok-clause-ticks
