@@ -1,5 +1,6 @@
 -- Parts that are cut into shares, routed by share, and joined: they are the same parts, and each is at its leaf.
-use Rattle.std.proofs.Common.{◌≡◌, ℕ, ◌+◌, ◌<◌, ◌≤◌, List, [], ◌∷◌, ◌++◌, length, get_or, map, take, drop, Option, Some, None, refl, sym, ap, subst, arith, ◌∙◌, ◌⊎◌, inl, inr}
+use Rattle.std.proofs.Common.{◌≡◌, ℕ, zero, suc, ◌+◌, ◌<◌, ◌≤◌, List, [], ◌∷◌, ◌++◌, length, get_or, map, take, drop, Option, Some, None, refl, sym, ap, subst, arith, ◌∙◌, ◌⊎◌, inl, inr}
+use Rattle.std.specs.Prelude.{slice_set}
 use Rattle.std.specs.List.{AllByRecursion, AllZip, flat_map}
 use Rattle.std.proofs.lemmas.List.{length-take, length-drop, length-map, map-append, map-id, take-append-drop}
 use Rattle.std.proofs.lemmas.List.Folds.{length-flat_map-take}
@@ -95,6 +96,20 @@ join_fits arena shape size room parts before after cut begin ran count enough ot
     by : (length parts ≡ 0) ⊎ (size < length parts) → length (flat_map routed_of after) ≤ room
     by (inl none) = omega (arith, total, none)
     by (inr more) = omega (arith, total, enough more)
+
+-- Writing over the last item.
+pub last_set : {X : Type 0} (xs : List X) (x y : X) (n : ℕ) → n ≡ length xs → slice_set (xs ++ x ∷ []) n y ≡ xs ++ y ∷ []
+last_set [] x y zero count = refl
+last_set [] x y (suc n) count = absurd (omega (arith, count))
+last_set (first ∷ xs) x y zero count = absurd (omega (arith, count))
+last_set (first ∷ xs) x y (suc n) count = ap (λ (l : List _). first ∷ l) (last_set xs x y n (omega (arith, count)))
+
+-- Reading it.
+pub last_read : {X : Type 0} (xs : List X) (x d : X) (n : ℕ) → n ≡ length xs → get_or (xs ++ x ∷ []) n d ≡ x
+last_read [] x d zero count = refl
+last_read [] x d (suc n) count = absurd (omega (arith, count))
+last_read (first ∷ xs) x d zero count = absurd (omega (arith, count))
+last_read (first ∷ xs) x d (suc n) count = last_read xs x d n (omega (arith, count))
 
 -- What the items so far and the next one hold is no more than what all of them hold.
 pub next_fits : {X Y : Type 0} (f : X → List Y) (all now : List X) (x : X) → map (λ y. y) now ≡ take (length now) all → length now < length all → x ≡ get_or all (length now) x

@@ -1,6 +1,8 @@
 -- Shares of parts, each of which one worker routes.
-use Rattle.std.specs.Prelude.{◌≡◌, ℕ, ◌<◌, ◌≤◌, List, [], ◌∷◌, length, take, drop, Option, Some, None}
+use Rattle.std.specs.Prelude.{◌≡◌, ℕ, ◌<◌, ◌≤◌, List, [], ◌∷◌, ◌++◌, length, take, drop, Option, Some, None}
 use Rattle.std.specs.Vec.{vec_capacity}
+use Rattle.palm_arena.specs.Leaves.{LeafPlace}
+use Rattle.palm_route.specs.Groups.{IsRoutedTo}
 use Rattle.palm_route.specs.declared.descent.DescentWork.{DescentWork}
 use Rattle.palm_route.specs.declared.part.Part.{Part}
 use Rattle.palm_route.specs.declared.part.Routed.{Routed}
@@ -14,6 +16,10 @@ share_of (Some work) = work.parts.now
 abbrev pub routed_of : Option DescentWork → List Routed
 routed_of None = []
 routed_of (Some work) = work.routed.items
+
+-- One more part stands behind routed ones, at its leaf.
+abbrev pub RoutesOne : List LeafPlace → Part → List Routed → List Routed → Type 0
+RoutesOne places part before after = (one : Routed) × (after ≡ before ++ one ∷ []) × (one.part ≡ part) × IsRoutedTo places one
 
 -- No part is routed yet, and there is room for all.
 abbrev pub HasRoom : DescentWork → Type 0

@@ -2,27 +2,19 @@
 ghost use Rattle.std.specs.Prelude.{◌≡◌, ◌<◌, ◌≤◌, [], ◌∷◌, length, slice_get, map, All, IfOk, Some};
 ghost use Rattle.std.specs.List.{AllByRecursion, flat_map};
 ghost use Rattle.std.specs.Vec.{vec_capacity};
-ghost use Rattle.palm_arena.specs.Leaves.{leaves_at, leaf_for};
+ghost use Rattle.palm_arena.specs.Leaves.{leaves_at};
 ghost use Rattle.palm_arena.specs.Reads.{map_of, HasTree};
 ghost use Rattle.palm_share.specs.Jobs.{Holds};
 ghost use Rattle.palm_route.specs.Groups.{IsRoutedTo};
-ghost use Rattle.palm_route.specs.Shares.{HasRoom, AreCut, share_of, routed_of};
+ghost use Rattle.palm_route.specs.Shares.{HasRoom, AreCut, RoutesOne, share_of, routed_of};
 
 use crate::part::{Part, PartList, Routed, RoutedList};
 use palm_arena::{Arena, Shape};
 use palm_base::NoMemory;
-use palm_node::{Inner, ItemList, Node, NodeId, Path};
+use palm_node::{Inner, ItemList, Node, Path};
 use palm_share::{Gate, Job, MOST_WORKERS, each_mut};
 use std::alloc::Global;
 use std::thread::Threads;
-
-// A leaf: where it is, the way to it, and where its range begins.
-#[derive(Drop)]
-struct LeafSpot {
-    leaf: NodeId,
-    path: Path,
-    low: u64,
-}
 
 // The key at which the range of an inner node's child begins, where the node's own begins at `low`.
 pub(crate) fn low_of_child(inner: &Inner, child: usize, low: u64) -> u64
@@ -35,39 +27,49 @@ pub(crate) fn low_of_child(inner: &Inner, child: usize, low: u64) -> u64
     inner.separator(child - 1)
 }
 
-// The leaf whose range has a key.
-fn find_leaf(arena: &Arena, shape: Shape, key: u64) -> LeafSpot
-    requires { HasTree (map_of arena.now.places) shape }
-    ensures { leaf_for key (leaves_at (map_of arena.now.places) shape) ≡ Some (record { leaf = result.leaf; path = result.path; low = result.low }) }
+// A part that is still at the root.
+fn at_root(shape: Shape, part: &Part) -> Routed
+    ensures { result ≡ record { part = part.now; leaf = shape.root; path = []; low = 0 } }
 {
-    let mut leaf = shape.root;
-    let mut low = 0;
-    let mut path = Path::new();
-    for _level in 1..shape.levels {
-        let Node::Inner(inner) = arena.read(leaf) else {
-            unreachable!()
-        };
-        let child = inner.route(key);
-        path.push(leaf, child);
-        low = low_of_child(inner, child, low);
-        leaf = inner.child(child);
-    }
-    LeafSpot { leaf, path, low }
-}
-
-// The part at the leaf whose range has its key.
-fn route(arena: &Arena, shape: Shape, part: &Part) -> Routed
-    requires { HasTree (map_of arena.now.places) shape }
-    ensures part { result.part ≡ part.now }
-    ensures routed { IsRoutedTo (leaves_at (map_of arena.now.places) shape) result }
-{
-    let LeafSpot { leaf, path, low } = find_leaf(arena, shape, part.key);
     Routed {
         part: part.copy(),
-        leaf,
-        path,
-        low,
+        leaf: shape.root,
+        path: Path::new(),
+        low: 0,
     }
+}
+
+// Walks a part from the root to the leaf whose range has its key. What is known of the way is written where it is to stand,
+// since it is wide.
+fn walk(arena: &Arena, shape: Shape, routed: &mut Routed)
+    requires tree { HasTree (map_of arena.now.places) shape }
+    requires begin { routed.old ≡ record { part = routed.old.part; leaf = shape.root; path = []; low = 0 } }
+    ensures part { routed.new.part ≡ routed.old.part }
+    ensures routed { IsRoutedTo (leaves_at (map_of arena.now.places) shape) routed.new }
+{
+    for _level in 1..shape.levels {
+        let Node::Inner(inner) = arena.read(routed.leaf) else {
+            unreachable!()
+        };
+        let child = inner.route(routed.part.key);
+        routed.path.push(routed.leaf, child);
+        routed.low = low_of_child(inner, child, routed.low);
+        routed.leaf = inner.child(child);
+    }
+}
+
+// Puts a part at the leaf whose range has its key behind others, for which there is room.
+fn route(arena: &Arena, shape: Shape, part: &Part, routed: &mut Vec<Routed>)
+    requires tree { HasTree (map_of arena.now.places) shape }
+    requires room { length routed.old.items < vec_capacity routed.old }
+    ensures ok { RoutesOne (leaves_at (map_of arena.now.places) shape) part.now routed.old.items routed.new.items }
+    ensures capacity { vec_capacity routed.new ≡ vec_capacity routed.old }
+{
+    routed.push_reserved(at_root(shape, part));
+    let Some(last) = routed.last_mut() else {
+        unreachable!()
+    };
+    walk(arena, shape, last);
 }
 
 // A share of the parts that are routed down a tree, and room for them once they are routed.
@@ -86,8 +88,7 @@ impl<'a> Job for DescentWork<'a> {
 
     fn run(&mut self) {
         for part in self.parts {
-            self.routed
-                .push_reserved(route(self.arena, self.shape, part));
+            route(self.arena, self.shape, part, &mut self.routed);
         }
     }
 }
