@@ -66,9 +66,10 @@ impl Journal {
         if self.touched[id.place] {
             return Ok(());
         }
-        let place = places[id.place].copy();
         self.free.reserve(self.saved.len() + 1)?;
-        self.saved.push(Saved { id, place })?;
+        self.saved.reserve(1)?;
+        let place = places[id.place].copy();
+        self.saved.push_reserved(Saved { id, place });
         self.touched[id.place] = true;
         Ok(())
     }

@@ -28,7 +28,7 @@ use Rattle.palm_base.specs.Table.{after_all}
 use Rattle.palm_base.specs.Pass.{Outcome}
 use Rattle.palm_leaf.specs.declared.settling.Gathered.{Gathered}
 use Rattle.palm_leaf.specs.Asked.{part_of}
-use Rattle.palm_leaf.specs.Worked.{leaf_left, parts_of_plan, IsReady, HasRun, outcome_of_plan, outcome_shown, low_and_rows}
+use Rattle.palm_leaf.specs.Worked.{IsPlan, leaf_left, parts_of_plan, IsReady, HasRun, outcome_of_plan, outcome_shown, low_and_rows}
 use Rattle.palm_leaf.specs.declared.leaf_work.LeafWork.{LeafWork}
 use Rattle.palm_leaf.specs.declared.lending.LeafDone.{LeafDone}
 
@@ -38,7 +38,7 @@ pub all_ready : (nodes : NodeId → Option Node) (least : ℕ) (groups : List Gr
 all_ready nodes least [] [] all = tt
 all_ready nodes least [] (work ∷ works) all = absurd all
 all_ready nodes least (group ∷ groups) [] all = absurd all
-all_ready nodes least (group ∷ groups) (work ∷ works) all = (record { leaf = (rows_at nodes group.leaf, all.0.leaf); plan = all.0.plan }, all_ready nodes least groups works all.1)
+all_ready nodes least (group ∷ groups) (work ∷ works) all = (record { leaf = (rows_at nodes group.leaf, all.0.leaf); plan = subst (λ (node : Node). IsPlan (length (rows_in_node (Some node))) work.plan) (sym all.0.leaf) all.0.plan }, all_ready nodes least groups works all.1)
 
 ended : (nodes : NodeId → Option Node) (least : ℕ) (group : Group) (before after : LeafWork) → IsLoaded nodes least group before → HasRun before after → IsEnded nodes least group after
 ended nodes least group before after loaded run =

@@ -1,5 +1,5 @@
 -- One leaf more is lent, and one more is given back.
-use Rattle.std.proofs.Common.{◌≡◌, ℕ, List, [], ◌∷◌, ◌++◌, map, None, Some, refl, sym, ap, ◌∙◌, append_assoc, subst}
+use Rattle.std.proofs.Common.{◌≡◌, ℕ, List, [], ◌∷◌, ◌++◌, length, map, None, Some, refl, sym, ap, ◌∙◌, append_assoc, subst}
 use Rattle.std.specs.Prelude.{Option, reverse}
 use Rattle.std.proofs.lemmas.List.{reverse-append}
 use mathlib.Core.List.{map-append}
@@ -16,6 +16,8 @@ use Rattle.palm_leaf.specs.Answers.{rows_at, rows_in_node}
 use Rattle.palm_leaf.specs.Ends.{leaf_cell, group_cells}
 use Rattle.palm_leaf.specs.Lending.{LentAre, present, lease_ids, lease_cell, IsLoaded, Matched}
 use Rattle.palm_leaf.specs.Settling.{done_of}
+use Rattle.palm_leaf.specs.Worked.{IsPlan}
+use Rattle.palm_base.specs.declared.row.Row.{Row}
 use Rattle.palm_leaf.specs.declared.leaf_work.LeafWork.{LeafWork}
 use Rattle.palm_leaf.specs.declared.lending.LeafDone.{LeafDone}
 use Rattle.palm_leaf.proofs.LentIds.{none_are_lent, one_more_lent, last_is_lent, one_given_back}
@@ -72,7 +74,7 @@ loaded_at_start : (start places : List Place) (least : ℕ) (group : Group) (wor
 loaded_at_start start places least group work held loaded = record {
   id = loaded.id;
   leaf = loaded.leaf ∙ ap (λ o. Leaf (rows_in_node o)) held;
-  plan = loaded.plan;
+  plan = subst (λ (rows : List Row). IsPlan (length rows) work.plan) (ap rows_in_node held) loaded.plan;
   parts = loaded.parts;
   path = loaded.path;
   low = loaded.low;

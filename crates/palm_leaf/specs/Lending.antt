@@ -47,7 +47,7 @@ lease_cell work = (work.lease.id, work.lease.node)
 pub record IsLoaded (nodes : NodeId → Option Node) (least : ℕ) (group : Group) (work : LeafWork) : Type 0 where
   pub id : work.lease.id ≡ group.leaf
   pub leaf : work.lease.node ≡ Leaf (rows_at nodes group.leaf)
-  pub plan : IsPlan work.plan
+  pub plan : IsPlan (length (rows_at nodes group.leaf)) work.plan
   pub parts : parts_of_plan work.plan ≡ group.parts
   pub path : work.plan.path.now ≡ group.path
   pub low : work.plan.low ≡ written_low group.path group.low

@@ -1,5 +1,5 @@
 -- A leaf's work: what it needs, and what it leaves.
-use Rattle.std.specs.Prelude.{◌≡◌, ℕ, ◌+◌, ◌≤◌, Bool, false, if◌then◌else◌, List, [], ◌∷◌, map, Some, vec_len, vec_capacity}
+use Rattle.std.specs.Prelude.{◌≡◌, ℕ, ◌+◌, ◌≤◌, Bool, false, if◌then◌else◌, List, [], ◌∷◌, length, map, Some, vec_len, vec_capacity}
 use Rattle.std.specs.List.{AllByRecursion}
 use Rattle.std.proofs.Common.{zero}
 use Rattle.palm_base.specs.Table.{after_all, IsTable}
@@ -38,14 +38,14 @@ outcome_shown kept low first later rows =
 abbrev pub outcome_of_plan : List Row → LeafPlan → Outcome zero
 outcome_of_plan first plan = outcome_shown plan.kept plan.low first (map low_and_rows plan.later.items) plan.rows.items
 
--- A plan before the work: nothing is listed yet, and there is room for all that may come of a full leaf.
-pub record IsPlan (plan : LeafPlan) : Type 0 where
+-- A plan before the work: nothing is listed yet, and there is room for all that may come of a leaf of so many rows.
+pub record IsPlan (held : ℕ) (plan : LeafPlan) : Type 0 where
   pub no_rows : plan.rows.items ≡ []
   pub no_later : plan.later.items ≡ []
-  pub row_room : MOST_LEAF_ROWS + vec_len plan.asked ≤ vec_capacity plan.rows
-  pub later_room : piece_count MOST_LEAF_ROWS (vec_len plan.asked) ≤ vec_capacity plan.later
+  pub row_room : held + vec_len plan.asked ≤ vec_capacity plan.rows
+  pub later_room : piece_count MOST_LEAF_ROWS (held + vec_len plan.asked) ≤ vec_capacity plan.later + 1
   pub not_kept : plan.kept ≡ false
-  pub waits : AllByRecursion (IsOpen (MOST_LEAF_ROWS + vec_len plan.asked)) plan.asked.items
+  pub waits : AllByRecursion (IsOpen (held + vec_len plan.asked)) plan.asked.items
 
 abbrev pub parts_of_plan : LeafPlan → List Part
 parts_of_plan plan = map part_of plan.asked.items
@@ -56,7 +56,7 @@ answers_of_plan plan = map answered plan.asked.items
 -- The work may be run: its node is a leaf, and its plan is one.
 pub record IsReady (work : LeafWork) : Type 0 where
   pub leaf : (rows : List Row) × (work.lease.node ≡ Leaf rows)
-  pub plan : IsPlan work.plan
+  pub plan : IsPlan (length (rows_in_node (Some work.lease.node))) work.plan
 
 -- The work on a leaf of these rows was run: each part is answered on the rows that the parts before it left, and the leaf is
 -- what the serial rule makes of it.
@@ -77,7 +77,7 @@ pub record IsResolved (rows : List Row) (before after : LeafPlan) : Type 0 where
   pub answers : answers_of_plan after ≡ answers_in rows (parts_of_plan before)
   pub rows-are : after.rows.items ≡ after_all rows (edits_of (parts_of_plan before))
   pub table : IsTable after.rows.items
-  pub few : vec_len after.rows ≤ MOST_LEAF_ROWS + vec_len before.asked
+  pub few : vec_len after.rows ≤ length rows + vec_len before.asked
   pub path : after.path ≡ before.path
   pub low : after.low ≡ before.low
   pub least : after.least ≡ before.least

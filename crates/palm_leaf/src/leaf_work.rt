@@ -50,7 +50,7 @@ pub struct LeafWork<'a> {
 // Lists the rows of a leaf, for which there is room.
 fn list_rows(leaf: &Leaf, rows: &mut Vec<Row>)
     requires none { rows.old.items ≡ [] }
-    requires room { MOST_LEAF_ROWS ≤ vec_capacity rows.old }
+    requires room { length leaf.now ≤ vec_capacity rows.old }
     ensures rows { rows.new.items ≡ leaf.now }
     ensures leaf { IsLeaf leaf.now }
     ensures capacity { vec_capacity rows.new ≡ vec_capacity rows.old }
@@ -94,7 +94,7 @@ impl LeafPlan<'_> {
 /// Lists the rows of a leaf and resolves the parts on them.
 pub fn resolve_parts(node: &Node, plan: &mut LeafPlan<'_>)
     requires leaf { (rows : List Row) × (node.now ≡ Node.Leaf rows) }
-    requires plan { IsPlan plan.old }
+    requires plan { IsPlan (length (rows_in_node (Some node.now))) plan.old }
     ensures resolved { IsResolved (rows_in_node (Some node.now)) plan.old plan.new }
     ensures few { length (rows_in_node (Some node.now)) ≤ MOST_LEAF_ROWS }
 {

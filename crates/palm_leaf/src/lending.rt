@@ -16,7 +16,7 @@ use crate::leaf_work::{LeafPlan, LeafWork};
 use crate::room::plan;
 use palm_arena::Arena;
 use palm_base::{NoMemory, Steps};
-use palm_node::NodeId;
+use palm_node::{Node, NodeId};
 use palm_route::Group;
 use std::alloc::Global;
 use std::sync::ledger::Ledger;
@@ -46,7 +46,10 @@ fn lend_leaf<'a, L: Ledger>(
     ensures ticks { OnErr result ((steps.old ≤ steps.new) × (steps.new ≤ steps.old + 1)) }
 {
     let id = group.leaf;
-    let plan = plan(alloc, group, least)?;
+    let Node::Leaf(leaf) = arena.read(id) else {
+        unreachable!()
+    };
+    let plan = plan(alloc, group, leaf.len(), least)?;
     let lease = arena.lend(id, steps)?;
     Ok(LeafWork { lease, plan })
 }

@@ -53,31 +53,36 @@ fn parent_low(path: &Path, low: u64) -> u64
     if child == 0 { 0 } else { low }
 }
 
-// How many rows a leaf may be left with, at most, by this many parts.
-fn most_rows(count: usize) -> Result<usize, NoMemory>
-    ensures { IfOk result (λ most. most ≡ MOST_LEAF_ROWS + count) }
+// How many rows a leaf of `held` rows may be left with, at most, by this many parts.
+fn most_rows(held: usize, count: usize) -> Result<usize, NoMemory>
+    ensures { IfOk result (λ most. most ≡ held + count) }
 {
-    match MOST_LEAF_ROWS.checked_add(count) {
+    match held.checked_add(count) {
         Some(most) => Ok(most),
         None => Err(NoMemory),
     }
 }
 
-/// The plan for a group's leaf, which is removed where it is left with some rows, but fewer than `least`. `NoMemory` where
-/// room was refused.
-pub fn plan<'a>(alloc: Global, group: &'a Group, least: usize) -> Result<LeafPlan<'a>, NoMemory>
+/// The plan for a group's leaf, which has `held` rows. It is removed where it is left with some rows, but fewer than `least`.
+/// `NoMemory` where room was refused.
+pub fn plan<'a>(
+    alloc: Global,
+    group: &'a Group,
+    held: usize,
+    least: usize,
+) -> Result<LeafPlan<'a>, NoMemory>
     requires { AllByRecursion HasKey group.now.parts }
-    ensures plan { IfOk result (λ plan. IsPlan plan) }
+    ensures plan { IfOk result (λ plan. IsPlan held plan) }
     ensures parts { IfOk result (λ plan. parts_of_plan plan ≡ group.now.parts) }
     ensures path { IfOk result (λ plan. plan.path.now ≡ group.now.path) }
     ensures low { IfOk result (λ plan. plan.low ≡ written_low group.now.path group.now.low) }
     ensures least { IfOk result (λ plan. plan.least ≡ least) }
 {
     let count = group.parts.len();
-    let most = most_rows(count)?;
+    let most = most_rows(held, count)?;
     let low = parent_low(&group.path, group.low);
     let rows = Vec::with_capacity(alloc, most)?;
-    let later = Vec::with_capacity(alloc, pieces(MOST_LEAF_ROWS, count))?;
+    let later = Vec::with_capacity(alloc, pieces(MOST_LEAF_ROWS, most).saturating_sub(1))?;
     Ok(LeafPlan {
         path: &group.path,
         low,

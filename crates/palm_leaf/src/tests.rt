@@ -1,4 +1,4 @@
-ghost use Rattle.std.specs.Prelude.{IfOk};
+ghost use Rattle.std.specs.Prelude.{◌≡◌, IfOk};
 ghost use Rattle.std.specs.List.{AllByRecursion};
 ghost use Rattle.palm_leaf.specs.Routed.{HasKey};
 ghost use Rattle.palm_leaf.specs.Worked.{IsPlan};
@@ -52,22 +52,28 @@ fn listing(rt: &impl Abort, from: &str, to: &str, limit: u32) -> Part
     part(rt, from, ask)
 }
 
-// The plan for an empty leaf with these parts.
-fn plan_of(alloc: Global, parts: PartList) -> Result<LeafPlan, Fail>
-    requires { AllByRecursion HasKey parts }
-    ensures plan { IfOk result (λ plan. IsPlan plan) }
+// The group of a leaf with these parts.
+fn group_of(parts: PartList) -> Group
+    ensures { result.parts ≡ parts }
 {
-    let group = Group {
+    Group {
         leaf: NodeId { place: 0 },
         path: Path::new(),
         low: 0,
         parts,
-    };
-    Ok(plan(alloc, group, LEAST_LEAF_ROWS)?)
+    }
+}
+
+// The plan for a group's leaf, which is empty.
+fn plan_of<'a>(alloc: Global, group: &'a Group) -> Result<LeafPlan<'a>, Fail>
+    requires { AllByRecursion HasKey group.now.parts }
+    ensures plan { IfOk result (λ plan. IsPlan 0 plan) }
+{
+    Ok(plan(alloc, group, 0, LEAST_LEAF_ROWS)?)
 }
 
 // The part at a place had this rate before it.
-fn assert_rate(rt: &impl Abort, plan: &LeafPlan, place: usize, rate: Option<u64>) {
+fn assert_rate(rt: &impl Abort, plan: &LeafPlan<'_>, place: usize, rate: Option<u64>) {
     assert!(rt; place < plan.asked.len());
     let told = plan.asked[place].rate.map(|rate| rate.get());
     assert!(rt; told == rate, "the part {place}");
@@ -83,7 +89,8 @@ fn resolves_parts_in_order(rt: HostRuntime) -> Result<(), Fail> {
     parts.push(part(&rt, "44", Ask::Look))?;
     parts.push(part(&rt, "45", Ask::Set(amount(&rt, 7))))?;
     parts.push(listing(&rt, "4", "9", 10))?;
-    let mut plan = plan_of(rt.alloc(), parts)?;
+    let group = group_of(parts);
+    let mut plan = plan_of(rt.alloc(), &group)?;
     resolve_parts(&Node::Leaf(Leaf::from_rows(&[])), &mut plan);
     let rates = [None, Some(5), Some(5), Some(6), None, None];
     for (place, rate) in rates.iter().enumerate() {
@@ -108,7 +115,8 @@ fn sets(rt: &impl Abort, alloc: Global, prefixes: &[&str]) -> Result<PartList, F
 
 #[test]
 fn cuts_many_rows_in_three(rt: HostRuntime) -> Result<(), Fail> {
-    let mut plan = plan_of(rt.alloc(), sets(&rt, rt.alloc(), &PREFIXES)?)?;
+    let group = group_of(sets(&rt, rt.alloc(), &PREFIXES)?);
+    let mut plan = plan_of(rt.alloc(), &group)?;
     resolve_parts(&Node::Leaf(Leaf::from_rows(&[])), &mut plan);
     assert!(rt; plan.rows.len() == PREFIXES.len());
     let mut later = Vec::with_capacity(rt.alloc(), pieces(MOST_LEAF_ROWS, plan.rows.len()))?;
@@ -129,7 +137,8 @@ fn lists_rows_from_the_first_key_on(rt: HostRuntime) -> Result<(), Fail> {
     parts.push(listing(&rt, "0", "105", 10))?;
     parts.push(listing(&rt, "18", "9", 10))?;
     parts.push(listing(&rt, "16", "12", 10))?;
-    let mut plan = plan_of(rt.alloc(), parts)?;
+    let group = group_of(parts);
+    let mut plan = plan_of(rt.alloc(), &group)?;
     resolve_parts(&Node::Leaf(Leaf::from_rows(&[])), &mut plan);
     let lists: [&[&str]; 5] = [&["13", "14", "15"], &["14", "15"], &["10"], &[], &[]];
     assert!(rt; plan.asked.len() == 8 + lists.len());
