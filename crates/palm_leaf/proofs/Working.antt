@@ -1,5 +1,6 @@
 -- What a leaf's work leaves where the leaf isn't written: it is removed, or stands for itself.
-use Rattle.std.proofs.Common.{◌≡◌, ◌≤◌, ◌<◌, ◌||◌, vec_len, length, ℕ, true, false, List, [], ◌∷◌, refl, sym, ap, subst, arith, ◌∙◌, ◌⊎◌, inl, inr, Some}
+use Rattle.std.proofs.Common.{◌≡◌, ◌≤◌, ◌<◌, ◌||◌, ◌&&◌, vec_len, length, ℕ, true, false, List, [], ◌∷◌, refl, sym, ap, subst, arith, ◌∙◌, ◌⊎◌, inl, inr, Some}
+use Rattle.std.proofs.lemmas.Bool.{le-ltb}
 use Rattle.palm_base.specs.Table.{after_all}
 use Rattle.palm_base.specs.Pass.{is_small}
 use Rattle.palm_base.specs.declared.bounds.TheConstants.{MOST_LEAF_ROWS}
@@ -11,9 +12,9 @@ use Rattle.palm_route.specs.Edits.{edit_before, edits_of}
 use Rattle.palm_route.specs.declared.part.Ask.{Ask}
 use Rattle.palm_route.specs.declared.part.Ask.TheVariants as ask
 use Rattle.palm_route.specs.declared.part.Part.{Part}
-use Rattle.palm_leaf.specs.Answers.{rows_in_node}
-use Rattle.palm_leaf.specs.Asked.{is_edit, has_edit}
-use Rattle.palm_leaf.specs.Worked.{leaf_left, outcome_shown, parts_of_plan, IsResolved, IsWorked}
+use Rattle.palm_leaf.specs.Answers.{answers_in, rows_in_node}
+use Rattle.palm_leaf.specs.Asked.{is_edit, is_look, all_look, has_edit}
+use Rattle.palm_leaf.specs.Worked.{answers_of_plan, leaf_left, outcome_shown, parts_of_plan, IsResolved, IsWorked}
 use Rattle.palm_leaf.specs.declared.leaf_work.LeafPlan.{LeafPlan}
 use Rattle.palm_leaf.specs.declared.leaf_work.LeafWork.{LeafWork}
 
@@ -75,4 +76,44 @@ worked_itself rows node work plan resolved read leaf no_later none looks most st
       few = few;
       answers = done.answers;
       outcome = rw (leaf, done.later, no_later, done.low, same) (sym own);
+    }
+
+-- Parts that look are no edits.
+looks_are_no_edits : (parts : List Part) → all_look parts ≡ true → has_edit parts ≡ false
+looks_are_no_edits [] all = refl
+looks_are_no_edits (part ∷ parts) all = by part.ask all (looks_are_no_edits parts)
+  where
+    by : (what : Ask) → is_look what && all_look parts ≡ true → (all_look parts ≡ true → has_edit parts ≡ false) → is_edit what || has_edit parts ≡ false
+    by (ask.Set rate) all rest = absurd cc
+    by ask.Del all rest = absurd cc
+    by ask.Look all rest = rest all
+    by (ask.List from to limit) all rest = absurd cc
+
+not_small : (least : ℕ) (rows : List Row) → least ≤ length rows → is_small least rows ≡ false
+not_small least [] enough = refl
+not_small least (row ∷ rows) enough = le-ltb (length (row ∷ rows)) least enough
+
+-- A leaf that is only looked at, and has enough rows, stands for itself.
+pub worked_looking : (rows : List Row) (node : Node) (work : LeafWork) (plan : LeafPlan) → plan ≡ record work.plan { asked = plan.asked }
+    → answers_of_plan plan ≡ answers_in (rows_in_node (Some node)) (parts_of_plan work.plan) → node ≡ work.lease.node → work.lease.node ≡ Leaf rows → work.plan.later.items ≡ [] → vec_len work.plan.later ≡ 0
+    → length (rows_in_node (Some node)) ≤ MOST_LEAF_ROWS → all_look (parts_of_plan work.plan) ≡ true → 0 < length (rows_in_node (Some work.lease.node)) → work.plan.least ≤ length (rows_in_node (Some work.lease.node))
+    → IsWorked rows work (record { lease = work.lease; plan = record plan { kept = true } })
+worked_looking rows node work plan only answered read leaf no_later none most looks some enough =
+    let held : rows_in_node (Some node) ≡ rows = ap (λ n. rows_in_node (Some n)) (read ∙ leaf) in
+    let own_rows : rows_in_node (Some work.lease.node) ≡ rows = ap (λ n. rows_in_node (Some n)) leaf in
+    let same : after_all rows (edits_of (parts_of_plan work.plan)) ≡ rows = ap (after_all rows) (no_edits (parts_of_plan work.plan) (looks_are_no_edits (parts_of_plan work.plan) looks)) in
+    let later : plan.later ≡ work.plan.later = ap (λ (p : LeafPlan). p.later) only in
+    let low : plan.low ≡ work.plan.low = ap (λ (p : LeafPlan). p.low) only in
+    let few : vec_len plan.later ≤ vec_len work.plan.asked = rw (later, none) (omega arith) in
+    let own : leaf_left work.plan.least work.plan.low rows ≡ record { pieces = (work.plan.low, rows) ∷ []; loose = [] } =
+    left_itself work.plan.least work.plan.low rows (subst (λ rs. 0 < length rs) own_rows some) (not_small work.plan.least rows (subst (λ rs. work.plan.least ≤ length rs) own_rows enough))
+    (subst (λ rs. length rs ≤ MOST_LEAF_ROWS) held most) in
+    record {
+      id = refl;
+      path = ap (λ (p : LeafPlan). p.path) only;
+      low = low;
+      leaf = (rows, leaf);
+      few = few;
+      answers = answered ∙ ap (λ rs. answers_in rs (parts_of_plan work.plan)) held;
+      outcome = rw (leaf, later, no_later, low, same) (sym own);
     }

@@ -1,6 +1,6 @@
 -- Parts of a leaf with room for their answers.
 use Rattle.std.specs.Prelude.{◌≡◌, ℕ, ◌≤◌, Bool, true, false, List, [], Option, vec_capacity}
-use Rattle.std.specs.List.{list_any}
+use Rattle.std.specs.List.{list_all, list_any}
 use Rattle.palm_base.specs.declared.row.Row.{Row}
 use Rattle.palm_route.specs.declared.part.Ask.{Ask}
 use Rattle.palm_route.specs.declared.part.Ask.TheVariants as ask
@@ -17,6 +17,17 @@ is_edit (ask.Set rate) = true
 is_edit ask.Del = true
 is_edit ask.Look = false
 is_edit (ask.List from to limit) = false
+
+-- The ask is a look-up. So a look-up is one, and a List isn't.
+abbrev pub is_look : Ask → Bool
+is_look (ask.Set rate) = false
+is_look ask.Del = false
+is_look ask.Look = true
+is_look (ask.List from to limit) = false
+
+-- Each of the parts looks for a row. So two look-ups do, and a look-up and a Del don't.
+abbrev pub all_look : List Part → Bool
+all_look parts = list_all (λ part. is_look part.ask) parts
 
 -- One of the parts is an edit. So it is of a look-up and a Del, and not of two look-ups.
 abbrev pub has_edit : List Part → Bool

@@ -1,5 +1,5 @@
 -- A leaf's work: what it needs, and what it leaves.
-use Rattle.std.specs.Prelude.{◌≡◌, ℕ, ◌+◌, ◌≤◌, Bool, false, if◌then◌else◌, List, [], ◌∷◌, length, map, Some, vec_len, vec_capacity}
+use Rattle.std.specs.Prelude.{◌≡◌, ℕ, ◌+◌, ◌<◌, ◌≤◌, Bool, true, false, if◌then◌else◌, List, [], ◌∷◌, length, map, Some, vec_len, vec_capacity}
 use Rattle.std.specs.List.{AllByRecursion}
 use Rattle.std.proofs.Common.{zero}
 use Rattle.palm_base.specs.Table.{after_all, IsTable}
@@ -11,7 +11,7 @@ use Rattle.palm_node.specs.declared.node.Node.TheVariants.{Leaf}
 use Rattle.palm_route.specs.Edits.{edits_of}
 use Rattle.palm_route.specs.declared.part.Part.{Part}
 use Rattle.palm_leaf.specs.Answers.{answers_in, rows_in_node}
-use Rattle.palm_leaf.specs.Asked.{answered, part_of, IsOpen}
+use Rattle.palm_leaf.specs.Asked.{all_look, answered, part_of, IsOpen}
 use Rattle.palm_leaf.specs.declared.answer.PartAnswer.{PartAnswer}
 use Rattle.palm_leaf.specs.declared.leaf_work.NewLeaf.{NewLeaf}
 use Rattle.palm_leaf.specs.declared.leaf_work.LeafPlan.{LeafPlan}
@@ -38,17 +38,19 @@ outcome_shown kept low first later rows =
 abbrev pub outcome_of_plan : List Row → LeafPlan → Outcome zero
 outcome_of_plan first plan = outcome_shown plan.kept plan.low first (map low_and_rows plan.later.items) plan.rows.items
 
--- A plan before the work: nothing is listed yet, and there is room for all that may come of a leaf of so many rows.
+abbrev pub parts_of_plan : LeafPlan → List Part
+parts_of_plan plan = map part_of plan.asked.items
+
+-- A plan before the work: nothing is listed yet, and there is room for all that may come of a leaf of so many rows. Where it
+-- is only looked at, it stands on, and needs no room for rows.
 pub record IsPlan (held : ℕ) (plan : LeafPlan) : Type 0 where
   pub no_rows : plan.rows.items ≡ []
   pub no_later : plan.later.items ≡ []
-  pub row_room : held + vec_len plan.asked ≤ vec_capacity plan.rows
+  pub row_room : plan.looks ≡ false → held + vec_len plan.asked ≤ vec_capacity plan.rows
+  pub looks : plan.looks ≡ true → (all_look (parts_of_plan plan) ≡ true) × (0 < held) × (plan.least ≤ held)
   pub later_room : piece_count MOST_LEAF_ROWS (held + vec_len plan.asked) ≤ vec_capacity plan.later + 1
   pub not_kept : plan.kept ≡ false
   pub waits : AllByRecursion (IsOpen (held + vec_len plan.asked)) plan.asked.items
-
-abbrev pub parts_of_plan : LeafPlan → List Part
-parts_of_plan plan = map part_of plan.asked.items
 
 abbrev pub answers_of_plan : LeafPlan → List PartAnswer
 answers_of_plan plan = map answered plan.asked.items

@@ -5,10 +5,11 @@ ghost use Rattle.palm_base.specs.Cut.{piece_count, piece_size};
 ghost use Rattle.palm_base.specs.Pass.{is_small, leaves_of};
 ghost use Rattle.palm_node.specs.LeafRows.{IsLeaf};
 ghost use Rattle.palm_base.specs.declared.row.Row.{Row};
-ghost use Rattle.palm_leaf.specs.Answers.{rows_in_node};
-ghost use Rattle.palm_leaf.specs.Worked.{low_and_rows, IsPlan, IsResolved, IsReady, HasRun};
+ghost use Rattle.palm_leaf.specs.Answers.{answers_in, rows_in_node};
+ghost use Rattle.palm_leaf.specs.Asked.{all_look};
+ghost use Rattle.palm_leaf.specs.Worked.{answers_of_plan, low_and_rows, parts_of_plan, IsPlan, IsResolved, IsReady, HasRun};
 
-use crate::rows::{Asked, has_edit, resolve};
+use crate::rows::{Asked, has_edit, look_all, resolve};
 use palm_arena::Lease;
 use palm_base::{MOST_LEAF_ROWS, Row};
 use palm_node::{Leaf, Node, Path, piece_size, pieces};
@@ -32,6 +33,8 @@ pub struct LeafPlan<'a> {
     pub least: usize,
     /// The parts, in the order of their arrival.
     pub asked: Vec<Asked>,
+    /// Whether the leaf is only looked at, and stands on as it is. Then its rows needn't be listed.
+    pub looks: bool,
     /// The rows, while they are changed. They are loose in the end where the leaf isn't kept.
     pub rows: Vec<Row>,
     /// The leaves past the first that the rows are cut into.
@@ -95,6 +98,7 @@ impl LeafPlan<'_> {
 pub fn resolve_parts(node: &Node, plan: &mut LeafPlan<'_>)
     requires leaf { (rows : List Row) × (node.now ≡ Node.Leaf rows) }
     requires plan { IsPlan (length (rows_in_node (Some node.now))) plan.old }
+    requires listed { plan.old.looks ≡ false }
     ensures resolved { IsResolved (rows_in_node (Some node.now)) plan.old plan.new }
     ensures few { length (rows_in_node (Some node.now)) ≤ MOST_LEAF_ROWS }
 {
@@ -103,6 +107,21 @@ pub fn resolve_parts(node: &Node, plan: &mut LeafPlan<'_>)
     };
     list_rows(leaf, &mut plan.rows);
     resolve(&mut plan.rows, &mut plan.asked);
+}
+
+/// Looks for the rows of the parts, each of which looks for one, in the leaf itself.
+pub fn look_parts(node: &Node, plan: &mut LeafPlan<'_>)
+    requires leaf { (rows : List Row) × (node.now ≡ Node.Leaf rows) }
+    requires looks { all_look (parts_of_plan plan.old) ≡ true }
+    ensures plan { plan.new ≡ record plan.old { asked = plan.new.asked } }
+    ensures answers { answers_of_plan plan.new ≡ answers_in (rows_in_node (Some node.now)) (parts_of_plan plan.old) }
+    ensures few { length (rows_in_node (Some node.now)) ≤ MOST_LEAF_ROWS }
+{
+    let Node::Leaf(leaf) = node else {
+        unreachable!()
+    };
+    let _ = leaf.len();
+    look_all(leaf, &mut plan.asked);
 }
 
 // Writes the first of the rows into the leaf, and cuts the others into later ones.
@@ -129,6 +148,11 @@ impl Job for LeafWork<'_> {
     ghost ran = { HasRun };
 
     fn run(&mut self) {
+        if self.plan.looks {
+            look_parts(self.lease.node(), &mut self.plan);
+            self.plan.kept = true;
+            return;
+        }
         let edited = has_edit(&self.plan.asked);
         resolve_parts(self.lease.node(), &mut self.plan);
         if self.plan.stays() {

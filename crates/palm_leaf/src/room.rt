@@ -1,13 +1,13 @@
 // Room for all that may come of a leaf, made before the leaves are worked on, so that the work can't fail.
-ghost use Rattle.std.specs.Prelude.{◌≡◌, ◌≤◌, ◌+◌, ◌==◌, if◌then◌else◌, length, map, IfOk};
+ghost use Rattle.std.specs.Prelude.{◌≡◌, ◌<◌, true, false, ◌≤◌, ◌+◌, ◌==◌, if◌then◌else◌, length, map, IfOk};
 ghost use Rattle.std.specs.List.{AllByRecursion};
 ghost use Rattle.palm_base.specs.declared.bounds.TheConstants.{MOST_LEAF_ROWS};
-ghost use Rattle.palm_leaf.specs.Asked.{part_of, HasRoom};
+ghost use Rattle.palm_leaf.specs.Asked.{all_look, part_of, HasRoom};
 ghost use Rattle.palm_leaf.specs.Routed.{HasKey, written_low};
 ghost use Rattle.palm_leaf.specs.Worked.{IsPlan, parts_of_plan};
 
 use crate::leaf_work::LeafPlan;
-use crate::rows::Asked;
+use crate::rows::{Asked, all_look};
 use palm_base::{MOST_LEAF_ROWS, NoMemory};
 use palm_node::{Path, pieces};
 use palm_route::{Ask, Group, Part};
@@ -63,6 +63,20 @@ fn most_rows(held: usize, count: usize) -> Result<usize, NoMemory>
     }
 }
 
+// Whether a leaf of `held` rows is only looked at, and stands on.
+fn only_looks(asked: &[Asked], held: usize, least: usize) -> bool
+    ensures { result ≡ true → (all_look (map part_of asked.now) ≡ true) × (0 < held) × (least ≤ held) }
+{
+    0 < held && least <= held && all_look(asked)
+}
+
+// For how many rows there must be room: for none where they aren't listed.
+fn row_room(looks: bool, most: usize) -> usize
+    ensures { looks ≡ false → result ≡ most }
+{
+    if looks { 0 } else { most }
+}
+
 /// The plan for a group's leaf, which has `held` rows. It is removed where it is left with some rows, but fewer than `least`.
 /// `NoMemory` where room was refused.
 pub fn plan<'a>(
@@ -81,13 +95,16 @@ pub fn plan<'a>(
     let count = group.parts.len();
     let most = most_rows(held, count)?;
     let low = parent_low(&group.path, group.low);
-    let rows = Vec::with_capacity(alloc, most)?;
+    let asked = ask_all(alloc, group.parts.as_slice(), most)?;
+    let looks = only_looks(&asked, held, least);
+    let rows = Vec::with_capacity(alloc, row_room(looks, most))?;
     let later = Vec::with_capacity(alloc, pieces(MOST_LEAF_ROWS, most).saturating_sub(1))?;
     Ok(LeafPlan {
         path: &group.path,
         low,
         least,
-        asked: ask_all(alloc, group.parts.as_slice(), most)?,
+        asked,
+        looks,
         rows,
         later,
         kept: false,

@@ -1,13 +1,14 @@
 // The rows of a leaf while its parts are resolved, one after another in the order of their arrival.
-ghost use Rattle.std.specs.Prelude.{◌≡◌, ◌≤◌, ◌<◌, ◌+◌, [], length, map, take, filter, vec_len, vec_capacity};
+ghost use Rattle.std.specs.Prelude.{◌≡◌, true, ◌≤◌, ◌<◌, ◌+◌, [], length, map, take, filter, vec_len, vec_capacity};
 ghost use Rattle.std.specs.List.{AllByRecursion};
 ghost use Rattle.palm_base.specs.Table.{rate_at, put, without, lies_within, after_all, IsTable};
 ghost use Rattle.palm_route.specs.Edits.{edits_of};
 ghost use Rattle.palm_leaf.specs.Routed.{HasKey};
 ghost use Rattle.palm_leaf.specs.Answers.{answers_in, answer_of, after_part};
-ghost use Rattle.palm_leaf.specs.Asked.{is_edit, has_edit, answered, part_of, IsOpen, FindsRoom};
+ghost use Rattle.palm_leaf.specs.Asked.{is_edit, is_look, all_look, has_edit, answered, part_of, IsOpen, FindsRoom};
 
 use palm_base::{Amount, Digits, Row, find_row};
+use palm_node::Leaf;
 use palm_route::{Ask, Part};
 
 /// A part of a leaf, with room for what it is answered.
@@ -100,6 +101,18 @@ impl Asked {
         matches!(&self.part.ask, Ask::Set(_) | Ask::Del)
     }
 
+    // Answers the part, which looks for a row, in a leaf.
+    fn look(&mut self, leaf: &Leaf)
+        requires { is_look self.old.part.ask ≡ true }
+        ensures answer { answered self.new ≡ record { part = self.old.part; answer = answer_of leaf.now self.old.part } }
+        ensures rows { after_part leaf.now self.old.part ≡ leaf.now }
+    {
+        let Ask::Look = &self.part.ask else {
+            unreachable!()
+        };
+        self.rate = leaf.get(self.part.key);
+    }
+
     // Answers the part on the rows, for which there is room.
     fn answer(&mut self, rows: &[Row])
         requires table { IsTable rows.now }
@@ -169,6 +182,29 @@ pub fn has_edit(asked: &[Asked]) -> bool
         }
     }
     false
+}
+
+/// Whether each of a leaf's parts looks for a row.
+pub fn all_look(asked: &[Asked]) -> bool
+    ensures { result ≡ all_look (map part_of asked.now) }
+{
+    for one in asked {
+        if !matches!(&one.part.ask, Ask::Look) {
+            return false;
+        }
+    }
+    true
+}
+
+/// Answers a leaf's parts, each of which looks for a row.
+pub fn look_all(leaf: &Leaf, asked: &mut [Asked])
+    requires { all_look (map part_of asked.old) ≡ true }
+    ensures answers { map answered asked.new ≡ answers_in leaf.now (map part_of asked.old) }
+    ensures len { length asked.new ≡ length asked.old }
+{
+    for one in asked.iter_mut() {
+        one.look(leaf);
+    }
 }
 
 /// Resolves a leaf's parts on its rows in their order, for each of which there is room.

@@ -156,6 +156,7 @@ fn settle<L: Ledger>(
         low,
         least: _,
         asked,
+        looks: _,
         rows,
         later,
         kept,

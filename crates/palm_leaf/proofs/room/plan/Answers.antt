@@ -9,16 +9,17 @@ use Rattle.palm_leaf.proofs.room.plan.Goals as goal
 
 pub returns-clause-plan : goal.returns-clause-plan
 returns-clause-plan c =
-    let asked = c.in_ok-ask_all.field-0 in
+    let asked = c.in_ok-asked.asked in
     let count : vec_len asked ≡ c.len-count.result =
-    asked.ok.0 ∙ sym (length-map' part_of asked.items) ∙ ap length (c.in_ok-ask_all.ensures.parts ∙ c.as_slice.ensures) ∙ sym c.len-count.ensures in
+    asked.ok.0 ∙ sym (length-map' part_of asked.items) ∙ ap length (c.in_ok-asked.ensures.parts ∙ c.as_slice.ensures) ∙ sym c.len-count.ensures in
     let most : c.in_ok-most.most ≡ c.args.held + vec_len asked = c.in_ok-most.ensures ∙ ap (λ n. c.args.held + n) (sym count) in
     let counted : piece_count MOST_LEAF_ROWS c.in_ok-most.most ≤ vec_capacity c.in_ok-later.later + 1 = omega (arith, c.pieces.ensures, c.in_ok-later.ensures.capacity) in
     record {
       no_rows = c.in_ok-rows.ensures.items;
       no_later = c.in_ok-later.ensures.items;
-      row_room = omega (arith, most, c.in_ok-rows.ensures.capacity);
+      row_room = λ listed. omega (arith, most, c.in_ok-rows.ensures.capacity, c.row_room.ensures listed);
+      looks = λ looks. rw c.deref.ensures.value at (c.only_looks-looks.ensures looks);
       later_room = subst (λ n. piece_count MOST_LEAF_ROWS n ≤ vec_capacity c.in_ok-later.later + 1) most counted;
       not_kept = refl;
-      waits = all_open _ asked.items c.args.group.now.parts (c.in_ok-ask_all.ensures.parts ∙ c.as_slice.ensures) c.requires (subst (λ n. AllByRecursion (HasRoom n) asked.items) most c.in_ok-ask_all.ensures.room);
+      waits = all_open _ asked.items c.args.group.now.parts (c.in_ok-asked.ensures.parts ∙ c.as_slice.ensures) c.requires (subst (λ n. AllByRecursion (HasRoom n) asked.items) most c.in_ok-asked.ensures.room);
     }
