@@ -126,6 +126,7 @@ pub fn look_parts(node: &Node, plan: &mut LeafPlan<'_>)
 
 // Writes the first of the rows into the leaf, and cuts the others into later ones.
 fn keep(lease: &mut Lease, plan: &mut LeafPlan<'_>)
+    requires leaf { (rows : List Row) × (lease.old.node ≡ Node.Leaf rows) }
     requires some { 0 < length plan.old.rows.items }
     requires table { IsTable plan.old.rows.items }
     requires none { plan.old.later.items ≡ [] }
@@ -137,7 +138,10 @@ fn keep(lease: &mut Lease, plan: &mut LeafPlan<'_>)
     ensures pieces { (low : ℕ) → (low, rows_in_node (Some lease.new.node)) ∷ map low_and_rows plan.new.later.items ≡ leaves_of low plan.old.rows.items }
 {
     let first = piece_size(MOST_LEAF_ROWS, plan.rows.len(), 0);
-    *lease.node_mut() = Node::Leaf(Leaf::from_rows(&plan.rows[..first]));
+    let Node::Leaf(leaf) = lease.node_mut() else {
+        unreachable!()
+    };
+    leaf.set_pairs(&plan.rows[..first]);
     cut_later(&plan.rows, &mut plan.later);
     plan.kept = true;
 }
