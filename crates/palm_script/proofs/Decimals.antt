@@ -13,66 +13,59 @@ glyph_is_digit n =
     let below : n % 10 < 10 = mod_below n 10 (omega arith) in
     rw (lt-ltb (n % 10) 10 below) (omega (arith, below), omega (arith, below))
 
-either_digits : (b : Bool) (xs ys : List ℕ) → AllByRecursion IsDigit xs → AllByRecursion IsDigit ys → AllByRecursion IsDigit (cond b xs ys)
-either_digits true xs ys p q = p
-either_digits false xs ys p q = q
+-- One digit at least, and nothing else.
+abbrev IsNumber : List ℕ → Type 0
+IsNumber [] = ⊥
+IsNumber (b ∷ bs) = IsDigit b × AllByRecursion IsDigit bs
 
-onto_digits : (k n : ℕ) (acc : List ℕ) → AllByRecursion IsDigit acc → AllByRecursion IsDigit (digits_onto k 10 false n acc)
-onto_digits zero n acc all = all
-onto_digits (suc k) n acc all =
+number_is_digits : (bs : List ℕ) → IsNumber bs → AllByRecursion IsDigit bs
+number_is_digits [] number = absurd number
+number_is_digits (b ∷ bs) number = number
+
+either_number : (b : Bool) (xs ys : List ℕ) → IsNumber xs → IsNumber ys → IsNumber (cond b xs ys)
+either_number true xs ys p q = p
+either_number false xs ys p q = q
+
+onto_number : (k n : ℕ) (acc : List ℕ) → IsNumber acc → IsNumber (digits_onto k 10 false n acc)
+onto_number zero n acc number = number
+onto_number (suc k) n acc number =
     let more = digit_glyph false (n % 10) ∷ acc in
-    let here : AllByRecursion IsDigit more = (glyph_is_digit n, all) in
-    either_digits (eqb (n / 10) 0) more (digits_onto k 10 false (n / 10) more) here (onto_digits k (n / 10) more here)
+    let here : IsNumber more = (glyph_is_digit n, number_is_digits acc number) in
+    either_number (eqb (n / 10) 0) more (digits_onto k 10 false (n / 10) more) here (onto_number k (n / 10) more here)
 
-decimal_digits : (n : ℕ) → AllByRecursion IsDigit (decimal n)
+decimal_is_number : (n : ℕ) → IsNumber (decimal n)
 unfolding digits
-decimal_digits n = onto_digits 64 n [] tt
+decimal_is_number n =
+    let last = digit_glyph false (n % 10) ∷ [] in
+    let here : IsNumber last = (glyph_is_digit n, tt) in
+    either_number (eqb (n / 10) 0) last (digits_onto 63 10 false (n / 10) last) here (onto_number 63 (n / 10) last here)
 
--- The first byte of a text is a digit.
-abbrev Begins : List ℕ → Type 0
-Begins [] = ⊥
-Begins (b ∷ bs) = IsDigit b
-
-either_begins : (b : Bool) (xs ys : List ℕ) → Begins xs → Begins ys → Begins (cond b xs ys)
-either_begins true xs ys p q = p
-either_begins false xs ys p q = q
-
-onto_begins : (k n : ℕ) (acc : List ℕ) → Begins acc → Begins (digits_onto k 10 false n acc)
-onto_begins zero n acc begins = begins
-onto_begins (suc k) n acc begins =
-    let more = digit_glyph false (n % 10) ∷ acc in
-    either_begins (eqb (n / 10) 0) more (digits_onto k 10 false (n / 10) more) (glyph_is_digit n) (onto_begins k (n / 10) more (glyph_is_digit n))
-
-decimal_begins : (n : ℕ) → Begins (decimal n)
-unfolding digits
-decimal_begins n =
-    let first = digit_glyph false (n % 10) ∷ [] in
-    either_begins (eqb (n / 10) 0) first (digits_onto 63 10 false (n / 10) first) (glyph_is_digit n) (onto_begins 63 (n / 10) first (glyph_is_digit n))
-
-no_sign : (bs more rest : List ℕ) → Begins bs → bs ++ more ≡ 61 ∷ rest → ⊥
-no_sign [] more rest begins e = begins
-no_sign (b ∷ bs) more rest begins e =
+no_sign : (bs more rest : List ℕ) → IsNumber bs → bs ++ more ≡ 61 ∷ rest → ⊥
+no_sign [] more rest number e = number
+no_sign (b ∷ bs) more rest number e =
     let first : b ≡ 61 = cc in
-    omega (arith, first, begins.1)
+    omega (arith, first, number.0)
 
 -- A number is no '='.
 pub number_is_no_sign : (n : ℕ) (more rest : List ℕ) → decimal n ++ more ≡ 61 ∷ rest → ⊥
-number_is_no_sign n more rest e = no_sign (decimal n) more rest (decimal_begins n) e
+number_is_no_sign n more rest e = no_sign (decimal n) more rest (decimal_is_number n) e
 
 to_blank : (xs ys more rest : List ℕ) → AllByRecursion IsDigit xs → AllByRecursion IsDigit ys → xs ++ 32 ∷ more ≡ ys ++ 32 ∷ rest → xs ≡ ys
-to_blank [] [] more rest p q e = refl
-to_blank [] (y ∷ ys) more rest p q e =
+to_blank [] [] more rest x-digits y-digits e = refl
+to_blank [] (y ∷ ys) more rest x-digits y-digits e =
     let first : 32 ≡ y = cc in
-    absurd (omega (arith, first, q.0.0))
-to_blank (x ∷ xs) [] more rest p q e =
+    absurd (omega (arith, first, y-digits.0.0))
+to_blank (x ∷ xs) [] more rest x-digits y-digits e =
     let first : x ≡ 32 = cc in
-    absurd (omega (arith, first, p.0.0))
-to_blank (x ∷ xs) (y ∷ ys) more rest p q e =
+    absurd (omega (arith, first, x-digits.0.0))
+to_blank (x ∷ xs) (y ∷ ys) more rest x-digits y-digits e =
     let first : x ≡ y = cc in
-    let others : xs ≡ ys = to_blank xs ys more rest p.1 q.1 (cc) in
+    let others : xs ≡ ys = to_blank xs ys more rest x-digits.1 y-digits.1 (cc) in
     cc
 
 -- A text that begins with a number and a blank begins with no other.
 pub number_to_blank : (m n : ℕ) (more rest : List ℕ) → m < 2 ^ 64 → n < 2 ^ 64 → decimal m ++ 32 ∷ more ≡ decimal n ++ 32 ∷ rest → m ≡ n
 number_to_blank m n more rest m-small n-small e =
-    decimal_injective m n m-small n-small (to_blank (decimal m) (decimal n) more rest (decimal_digits m) (decimal_digits n) e)
+    let m-digits = number_is_digits (decimal m) (decimal_is_number m) in
+    let n-digits = number_is_digits (decimal n) (decimal_is_number n) in
+    decimal_injective m n m-small n-small (to_blank (decimal m) (decimal n) more rest m-digits n-digits e)

@@ -1,5 +1,5 @@
 -- The reply lines of a batch determine it, among those that each caller's order allows: each line says whose call it was.
-use Rattle.std.proofs.Common.{◌≡◌, ℕ, ◌+◌, ◌^◌, ◌<◌, List, [], ◌∷◌, ◌++◌, decimal, refl, sym, ap, subst, append_assoc, arith, ◌∙◌}
+use Rattle.std.proofs.Common.{◌≡◌, ℕ, ◌+◌, ◌^◌, ◌<◌, List, [], ◌∷◌, ◌++◌, decimal, refl, sym, subst, append_assoc, arith, ◌∙◌}
 use Rattle.std.proofs.lemmas.List.{append_cancel_left}
 use Rattle.palm_base.specs.declared.row.Row.{Row}
 use Rattle.palm_base.specs.declared.call.Entry.{Entry}
@@ -10,6 +10,10 @@ use Rattle.palm_script.specs.Transcript.{reply_line, reply_lines}
 use Rattle.palm_script.proofs.Decimals.{number_is_no_sign, number_to_blank}
 use Rattle.palm_script.proofs.Shuffles.{AreShuffles, first_is_same, rest_is_shuffled}
 
+-- Texts of three parts that are one text are so too where the second and the third part are put together.
+pub parted : (a b c d e f : List ℕ) → (a ++ b) ++ c ≡ (d ++ e) ++ f → a ++ (b ++ c) ≡ d ++ (e ++ f)
+parted a b c d e f same = sym (append_assoc a b c) ∙ same ∙ append_assoc d e f
+
 -- A reply line begins with no '='.
 line_is_no_sign : (n caller : ℕ) (reply : Reply) (lines more rest : List ℕ) → (reply_line n caller reply ++ lines) ++ more ≡ 61 ∷ rest → ⊥
 line_is_no_sign n caller reply lines more rest e =
@@ -19,8 +23,8 @@ line_is_no_sign n caller reply lines more rest e =
 line_shows_caller : (n caller other : ℕ) (reply answered : Reply) (more rest : List ℕ) → caller < 2 ^ 64 → other < 2 ^ 64
     → reply_line n caller reply ++ more ≡ reply_line n other answered ++ rest → caller ≡ other
 line_shows_caller n caller other reply answered more rest caller-small other-small e =
-    number_to_blank caller other _ _ caller-small other-small
-    (append_cancel_left (32 ∷ []) _ _ (append_cancel_left (decimal n) _ _ (simp append_assoc at e)))
+    let from-blank = append_cancel_left (decimal n) _ _ (simp append_assoc at e) in
+    number_to_blank caller other _ _ caller-small other-small (append_cancel_left (32 ∷ []) _ _ from-blank)
 
 -- What two batches were found to be: the same, with the same text after them, and what is left of the histories is shuffled.
 pub record AreOneBatch (left right left_rest right_rest : List Entry) (after_left after_right : List ℕ) : Type 0 where
@@ -40,15 +44,15 @@ lines_show_batch n rows (x ∷ xs) [] ps qs v w shuffles e =
 lines_show_batch n rows (x ∷ xs) (y ∷ ys) ps qs v w shuffles e =
     let lines = λ (entry : Entry) (entries : List Entry). reply_lines (n + 1) entries (replies_to (after rows entry.call) entries) in
     let line = λ (entry : Entry). reply_line n entry.caller (answer rows entry.call) in
-    let parted : line x ++ (lines x xs ++ 61 ∷ v) ≡ line y ++ (lines y ys ++ 61 ∷ w) =
-    sym (append_assoc (line x) (lines x xs) (61 ∷ v)) ∙ e ∙ append_assoc (line y) (lines y ys) (61 ∷ w) in
-    let whose : x.caller ≡ y.caller =
-    line_shows_caller n x.caller y.caller (answer rows x.call) (answer rows y.call) (lines x xs ++ 61 ∷ v) (lines y ys ++ 61 ∷ w)
-    (omega (arith, shuffles.lefts.0)) (omega (arith, shuffles.rights.0)) parted in
-    let first : x ≡ y = first_is_same x y (xs ++ ps) (ys ++ qs) shuffles whose in
-    let turned : line x ++ (lines x xs ++ 61 ∷ v) ≡ line x ++ (lines x ys ++ 61 ∷ w) =
-    subst (λ (entry : Entry). line x ++ (lines x xs ++ 61 ∷ v) ≡ line entry ++ (lines entry ys ++ 61 ∷ w)) (sym first) parted in
-    let others : AreOneBatch xs ys ps qs v w =
-    lines_show_batch (n + 1) (after rows x.call) xs ys ps qs v w (rest_is_shuffled x y (xs ++ ps) (ys ++ qs) shuffles first)
-    (append_cancel_left (line x) (lines x xs ++ 61 ∷ v) (lines x ys ++ 61 ∷ w) turned) in
-    record { batch = ap (λ (entry : Entry). entry ∷ xs) first ∙ ap (λ (entries : List Entry). y ∷ entries) others.batch; text = others.text; rest = others.rest }
+    let left = λ (entry : Entry). lines entry xs ++ 61 ∷ v in
+    let right = λ (entry : Entry). lines entry ys ++ 61 ∷ w in
+    let text : line x ++ left x ≡ line y ++ right y = parted (line x) (lines x xs) (61 ∷ v) (line y) (lines y ys) (61 ∷ w) e in
+    let x-small : x.caller < 2 ^ 64 = omega (arith, shuffles.lefts.0) in
+    let y-small : y.caller < 2 ^ 64 = omega (arith, shuffles.rights.0) in
+    let whose = line_shows_caller n x.caller y.caller (answer rows x.call) (answer rows y.call) (left x) (right y) x-small y-small text in
+    let first = first_is_same x y (xs ++ ps) (ys ++ qs) shuffles whose in
+    let of-first = subst (λ (entry : Entry). line x ++ left x ≡ line entry ++ right entry) (sym first) text in
+    let text-rest = append_cancel_left (line x) (left x) (right x) of-first in
+    let rest = rest_is_shuffled x y (xs ++ ps) (ys ++ qs) shuffles first in
+    let others = lines_show_batch (n + 1) (after rows x.call) xs ys ps qs v w rest text-rest in
+    record { batch = λ i. first i ∷ others.batch i; text = others.text; rest = others.rest }

@@ -1,6 +1,7 @@
 -- A transcript determines its run among the stormy runs of a script.
-use Rattle.std.proofs.Common.{◌≡◌, ℕ, ◌+◌, ◌≤◌, ◌<◌, List, [], ◌∷◌, ◌++◌, length, take, drop, sum, decimal, refl, sym, ap, subst, append_assoc, arith, ◌∙◌, All}
+use Rattle.std.proofs.Common.{◌≡◌, ℕ, ◌+◌, ◌≤◌, ◌<◌, List, [], ◌∷◌, ◌++◌, length, take, drop, sum, decimal, refl, sym, ap, subst, arith, ◌∙◌, All}
 use Rattle.std.specs.Prelude.{codes}
+use Rattle.std.specs.List.{AllByRecursion}
 use Rattle.std.proofs.lemmas.List.{append_cancel_left, length-take, length-drop, take-append-drop, nil_from_length}
 use Rattle.std.proofs.lemmas.List.Elements.{recursion_from_All}
 use Rattle.std.proofs.lemmas.List.Sums.{sum_by-cons}
@@ -12,7 +13,7 @@ use Rattle.palm_script.specs.Storms.{IsStormySection, IsStormyFrom, calls_by_cal
 use Rattle.palm_script.specs.Transcript.{Progress, Section, after_batch, after_section, batch_text, batches_text, dump_text, dumps_batches, section_text, sections_text, reply_lines, begin, straight}
 use Rattle.palm_script.specs.declared.dump.DumpWhen.{DumpWhen}
 use Rattle.palm_script.proofs.Callers.{each_caller}
-use Rattle.palm_script.proofs.ReplyLines.{AreOneBatch, lines_show_batch}
+use Rattle.palm_script.proofs.ReplyLines.{AreOneBatch, lines_show_batch, parted}
 use Rattle.palm_script.proofs.Shuffles.{AreShuffles, shuffles_turned, none_is_left}
 
 -- ---- a batch
@@ -23,12 +24,10 @@ text_shows_batch : (dump : DumpWhen) (at : Progress) (xs ys ps qs : List Entry) 
 text_shows_batch dump at xs ys ps qs v w shuffles e =
     let lines = λ (batch : List Entry). reply_lines at.calls batch (replies_to at.rows batch) in
     let others = λ (batch : List Entry). (32 ∷ (decimal (length batch) ++ codes "\n")) ++ dump_text (dumps_batches dump) (batch_tree at.tree (calls_of batch)) in
-    let parted : lines xs ++ 61 ∷ (others xs ++ v) ≡ lines ys ++ 61 ∷ (others ys ++ w) =
-    sym (append_assoc (lines xs) (61 ∷ others xs) v) ∙ e ∙ append_assoc (lines ys) (61 ∷ others ys) w in
-    let found : AreOneBatch xs ys ps qs (others xs ++ v) (others ys ++ w) =
-    lines_show_batch at.calls at.rows xs ys ps qs (others xs ++ v) (others ys ++ w) shuffles parted in
-    let text : v ≡ w = append_cancel_left (others xs) v w (found.text ∙ ap (λ (batch : List Entry). others batch ++ w) (sym found.batch)) in
-    record { batch = found.batch; text = text; rest = found.rest }
+    let text = parted (lines xs) (61 ∷ others xs) v (lines ys) (61 ∷ others ys) w e in
+    let found = lines_show_batch at.calls at.rows xs ys ps qs (others xs ++ v) (others ys ++ w) shuffles text in
+    let rest = append_cancel_left (others xs) v w (found.text ∙ ap (λ (batch : List Entry). others batch ++ w) (sym found.batch)) in
+    record { batch = found.batch; text = rest; rest = found.rest }
 
 -- ---- the batches of a section
 
@@ -71,42 +70,41 @@ batches_show_history dump at left right (m ∷ ms) (n ∷ ns) v w shuffles cut-l
     let qs = drop n right in
     let others-left = λ (batch : List Entry). batches_text dump (after_batch at batch) ps ms in
     let others-right = λ (batch : List Entry). batches_text dump (after_batch at batch) qs ns in
-    let turned : AreShuffles (xs ++ ps) right = subst (λ (history : List Entry). AreShuffles history right) (sym (take-append-drop m left)) shuffles in
-    let parted : AreShuffles (xs ++ ps) (ys ++ qs) = subst (λ (history : List Entry). AreShuffles (xs ++ ps) history) (sym (take-append-drop n right)) turned in
-    let text : batch_text dump at xs ++ (others-left xs ++ v) ≡ batch_text dump at ys ++ (others-right ys ++ w) =
-    sym (append_assoc (batch_text dump at xs) (others-left xs) v) ∙ e ∙ append_assoc (batch_text dump at ys) (others-right ys) w in
-    let first : AreOneBatch xs ys ps qs (others-left xs ++ v) (others-right ys ++ w) =
-    text_shows_batch dump at xs ys ps qs (others-left xs ++ v) (others-right ys ++ w) parted text in
+    let batch = batch_text dump at in
+    let text = parted (batch xs) (others-left xs) v (batch ys) (others-right ys) w e in
+    let whole : AreShuffles (xs ++ ps) (ys ++ qs) = rw (take-append-drop m left, take-append-drop n right) shuffles in
+    let first = text_shows_batch dump at xs ys ps qs (others-left xs ++ v) (others-right ys ++ w) whole text in
+    let text-rest = first.text ∙ ap (λ (batch : List Entry). others-right batch ++ w) (sym first.batch) in
     let left-rest = rest_is_cut left m ms cut-left in
     let right-rest = rest_is_cut right n ns cut-right in
-    let rest : AreOneHistory ps qs ms ns v w =
-    batches_show_history dump (after_batch at xs) ps qs ms ns v w first.rest left-rest.1 right-rest.1
-    (first.text ∙ ap (λ (batch : List Entry). others-right batch ++ w) (sym first.batch)) in
+    let rest = batches_show_history dump (after_batch at xs) ps qs ms ns v w first.rest left-rest.1 right-rest.1 text-rest in
     let length-is : m ≡ n = omega (arith, length-take m left, length-take n right, ap length first.batch, left-rest.0, right-rest.0) in
     record {
-      history =
-          sym (take-append-drop m left) ∙ ap (λ (batch : List Entry). batch ++ ps) first.batch
-          ∙ ap (λ (others : List Entry). ys ++ others) rest.history ∙ take-append-drop n right;
-      cutting = ap (λ (k : ℕ). k ∷ ms) length-is ∙ ap (λ (lengths : List ℕ). n ∷ lengths) rest.cutting;
+      history = sym (take-append-drop m left) ∙ (λ i. first.batch i ++ rest.history i) ∙ take-append-drop n right;
+      cutting = λ i. length-is i ∷ rest.cutting i;
       text = rest.text;
     }
 
 -- ---- sections
 
+-- The callers are those of a script.
+callers_are_below : (calls history : List Entry) → All (λ (entry : Entry). entry.caller < length (calls_by_caller calls)) history
+    → AllByRecursion (λ (entry : Entry). entry.caller < 64) history
+callers_are_below calls history below =
+    let many = each_caller (λ (caller : ℕ). calls_of (entries_of caller calls)) in
+    recursion_from_All (λ (entry : Entry). entry.caller < 64) history (subst (λ (n : ℕ). All (λ (entry : Entry). entry.caller < n) history) many below)
+
 -- Two sections that may stand in place of one section have each caller's entries in its order.
 sections_are_shuffles : (most : ℕ) (before : List Entry) (own section other : Section)
     → IsStormySection most before own section → IsStormySection most before own other → AreShuffles section.history other.history
-sections_are_shuffles most before own section other stormy stormy-other =
-    let many : length (calls_by_caller own.history) ≡ 64 = each_caller (λ (caller : ℕ). calls_of (entries_of caller own.history)) in
-    let below = λ (history : List Entry) (callers : All (λ (entry : Entry). entry.caller < length (calls_by_caller own.history)) history).
-    recursion_from_All (λ (entry : Entry). entry.caller < 64) history (subst (λ (n : ℕ). All (λ (entry : Entry). entry.caller < n) history) many callers) in
-    record {
-      lefts = below section.history stormy.keeps.callers;
-      rights = below other.history stormy-other.keeps.callers;
-      same = λ caller small.
-          let among : caller < length (calls_by_caller own.history) = omega (arith, many, small) in
-          stormy.keeps.calls caller among ∙ sym (stormy-other.keeps.calls caller among);
-    }
+sections_are_shuffles most before own section other stormy stormy-other = record {
+  lefts = callers_are_below own.history section.history stormy.keeps.callers;
+  rights = callers_are_below own.history other.history stormy-other.keeps.callers;
+  same = λ caller small.
+      let many = each_caller (λ (caller : ℕ). calls_of (entries_of caller own.history)) in
+      let among : caller < length (calls_by_caller own.history) = omega (arith, many, small) in
+      stormy.keeps.calls caller among ∙ sym (stormy-other.keeps.calls caller among);
+}
 
 text_shows_section : (dump : DumpWhen) (at : Progress) (most : ℕ) (before : List Entry) (own section other : Section) (v w : List ℕ)
     → IsStormySection most before own section → IsStormySection most before own other
@@ -114,12 +112,12 @@ text_shows_section : (dump : DumpWhen) (at : Progress) (most : ℕ) (before : Li
 text_shows_section dump at most before own section other v w stormy stormy-other e =
     let batches = λ (which : Section). batches_text dump at which.history which.cutting in
     let shape = λ (which : Section). dump_text which.dumps (tree_after at.tree which.history which.cutting) in
-    let parted : batches section ++ (shape section ++ v) ≡ batches other ++ (shape other ++ w) =
-    sym (append_assoc (batches section) (shape section) v) ∙ e ∙ append_assoc (batches other) (shape other) w in
-    let found : AreOneHistory section.history other.history section.cutting other.cutting (shape section ++ v) (shape other ++ w) =
-    batches_show_history dump at section.history other.history section.cutting other.cutting (shape section ++ v) (shape other ++ w)
-    (sections_are_shuffles most before own section other stormy stormy-other) stormy.cuts stormy-other.cuts parted in
-    let dumps : section.dumps ≡ other.dumps = stormy.dumps ∙ sym stormy-other.dumps in
+    let text = parted (batches section) (shape section) v (batches other) (shape other) w e in
+    let shuffles = sections_are_shuffles most before own section other stormy stormy-other in
+    let left-rest = shape section ++ v in
+    let right-rest = shape other ++ w in
+    let found = batches_show_history dump at section.history other.history section.cutting other.cutting left-rest right-rest shuffles stormy.cuts stormy-other.cuts text in
+    let dumps = stormy.dumps ∙ sym stormy-other.dumps in
     let same : section ≡ other = λ i. record { history = found.history i; cutting = found.cutting i; dumps = dumps i } in
     (same, append_cancel_left (shape section) v w (found.text ∙ ap (λ (which : Section). shape which ++ w) (sym same)))
 
@@ -132,12 +130,12 @@ text_shows_sections dump at most before [] (section ∷ sections) other stormy s
 text_shows_sections dump at most before (own ∷ owns) [] other stormy stormy-other e = absurd stormy
 text_shows_sections dump at most before (own ∷ owns) (section ∷ sections) [] stormy stormy-other e = absurd stormy-other
 text_shows_sections dump at most before (own ∷ owns) (section ∷ sections) (first ∷ others) stormy stormy-other e =
-    let rest = λ (which : Section). sections_text dump (after_section at which) others in
-    let found = text_shows_section dump at most before own section first (sections_text dump (after_section at section) sections) (rest first) stormy.0 stormy-other.0 e in
-    let tail : sections ≡ others =
-    text_shows_sections dump (after_section at section) most (before ++ own.history) owns sections others stormy.1 stormy-other.1
-    (found.1 ∙ ap rest (sym found.0)) in
-    ap (λ (which : Section). which ∷ sections) found.0 ∙ ap (λ (run : List Section). first ∷ run) tail
+    let at-next = after_section at section in
+    let text = λ (which : Section). sections_text dump (after_section at which) others in
+    let found = text_shows_section dump at most before own section first (sections_text dump at-next sections) (text first) stormy.0 stormy-other.0 e in
+    let text-rest = found.1 ∙ ap text (sym found.0) in
+    let rest = text_shows_sections dump at-next most (before ++ own.history) owns sections others stormy.1 stormy-other.1 text-rest in
+    λ i. found.0 i ∷ rest i
 
 pub text_shows_run : TextShowsRun
 text_shows_run items most dump run other stormy stormy-other e =

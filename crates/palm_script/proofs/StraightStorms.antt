@@ -70,10 +70,8 @@ placed_in_order before (entry ∷ entries) placed caller = by (eqb entry.caller 
         let whose : entry.caller ≡ caller = eqb-true entry.caller caller e in
         let more : count_of caller (before ++ entry ∷ []) ≡ count + 1 = count_of-more before entry caller ∙ ap (λ (b : Bool). count + cond b 1 0) e in
         let place : entry.place ≡ count = placed.0 ∙ ap (λ (who : ℕ). count_of who before) whose in
-        let first : entry ≡ record { caller = caller; place = count; call = entry.call } =
-        λ i. record { caller = whose i; place = place i; call = entry.call } in
         let others : own ≡ numbered caller (count + 1) (calls_of own) = rest ∙ ap (λ (n : ℕ). numbered caller n (calls_of own)) more in
-        λ i. first i ∷ others i
+        λ i. record { caller = whose i; place = place i; call = entry.call } ∷ others i
     by false e rest =
         let more : count_of caller (before ++ entry ∷ []) ≡ count = count_of-more before entry caller ∙ ap (λ (b : Bool). count + cond b 1 0) e ∙ omega arith in
         rest ∙ ap (λ (n : ℕ). numbered caller n (calls_of own)) more
