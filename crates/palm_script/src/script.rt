@@ -208,4 +208,35 @@ mod tests {
         }
         Ok(())
     }
+
+    // Bytes that are no text, NULs, tabs and carriage returns. Each script is given with the number of its calls, and the line
+    // and the code of its fault.
+    #[test]
+    fn any_bytes(rt: HostRuntime) -> Result<(), Fail> {
+        let none: Option<(u64, u8)> = None;
+        for (number, (text, calls, fault)) in [
+            (b"\xff\xfe\n0 get 4\n".as_slice(), 0, Some((1, 1))),
+            (b"0 get 4\n\x00\n", 1, Some((2, 1))),
+            (b"0 get 4\x00\n", 0, Some((1, 4))),
+            (b"# \xff\x00\n0 get 4\n", 1, none),
+            (b"\x00# no note\n", 0, Some((1, 1))),
+            (b"0\tget\t4\t\n\t\n", 1, none),
+            (b"0\x0bget 4\n", 0, Some((1, 1))),
+            (b"0 get 4\r", 1, none),
+            (b"0 get 4\r\r\n", 0, Some((1, 4))),
+            (b"0 get 4\r0 get 5\n", 0, Some((1, 3))),
+            (b"\r\r\n", 0, Some((1, 1))),
+            (b"\n\r\n\ncut\r\n0 get 4\r", 1, none),
+        ]
+        .iter()
+        .enumerate()
+        {
+            assert!(rt; text.len() <= MOST_BYTES);
+            let script = read_script(rt.alloc(), text, true)?;
+            assert_eq!(rt; script.entries.len(), *calls, "script {number}");
+            let found = script.fault.map(|fault| (fault.line, fault.why as u8));
+            assert_eq!(rt; found, *fault, "script {number}");
+        }
+        Ok(())
+    }
 }
