@@ -29,7 +29,7 @@ AreRead at [] (child ∷ children) = ⊥
 AreRead at (id ∷ ids) [] = ⊥
 AreRead at (id ∷ ids) (child ∷ children) = (at id ≡ Some child.1) × AreRead at ids children
 
-are_read : {X : Type 0} (at : NodeId → Option X) (ids : List NodeId) (children : List (ℕ × X)) → length ids ≡ length children
+pub are_read : {X : Type 0} (at : NodeId → Option X) (ids : List NodeId) (children : List (ℕ × X)) → length ids ≡ length children
     → ((i : ℕ) (id : NodeId) (child : ℕ × X) → i < length children → at (get_or ids i id) ≡ Some (get_or children i child).1) → AreRead at ids children
 are_read at [] [] count each = tt
 are_read at [] (child ∷ children) count each = absurd (omega (arith, count))

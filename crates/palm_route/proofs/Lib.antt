@@ -1,5 +1,6 @@
 pub mod AddedParts
 pub mod Ascents
+pub mod CountedParts
 pub mod CutShares
 pub mod Descents
 pub mod GroupedParts

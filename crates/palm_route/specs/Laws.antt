@@ -3,12 +3,14 @@ use Rattle.std.specs.Prelude.{◌≡◌, ℕ, ◌≤◌, List, length, map, filt
 use Rattle.std.specs.List.{AllByRecursion}
 use Rattle.palm_base.specs.History.{calls_of}
 use Rattle.palm_base.specs.Pass.{is_edit}
+use Rattle.palm_base.specs.Tree.{Tree}
 use Rattle.palm_base.specs.declared.call.Entry.{Entry}
 use Rattle.palm_node.specs.declared.id.NodeId.{NodeId}
 use Rattle.palm_node.specs.declared.node.Node.{Node}
 use Rattle.palm_arena.specs.Leaves.{LeafPlace, leaves_at, leaf_for}
-use Rattle.palm_arena.specs.Reads.{HasTree}
+use Rattle.palm_arena.specs.Reads.{HasTree, ReadsAs}
 use Rattle.palm_arena.specs.declared.shape.Shape.{Shape}
+use Rattle.palm_route.specs.Counts.{parts_on}
 use Rattle.palm_route.specs.Edits.{EditsPrefix, edits_of}
 use Rattle.palm_route.specs.Groups.{LowsRise}
 use Rattle.palm_route.specs.Meets.{leaves_met, first_key}
@@ -41,3 +43,10 @@ abbrev pub PartsKeepEdits : Type 0
 PartsKeepEdits =
     (places : List LeafPlace) (first : ℕ) (entries : List Entry) → AllByRecursion (λ entry. EditsPrefix entry.call) entries
     → edits_of (parts_of places first entries) ≡ filter is_edit (calls_of entries)
+
+-- The parts of a batch are as many as the value of the tree says that the leaves are of. So on a root over two leaves with the
+-- separator 20, a Get and a List from 10 to 25 have 3, at whatever ids the nodes stand.
+abbrev pub PartsAreCounted : Type 0
+PartsAreCounted =
+    (nodes : NodeId → Option Node) (shape : Shape) (tree : Tree) (first : ℕ) (batch : List Entry) → ReadsAs nodes shape tree
+    → length (parts_of (leaves_at nodes shape) first batch) ≡ parts_on tree batch

@@ -1,6 +1,6 @@
 //! Laws of routing. Each function has an empty body: its contract is the law.
 
-ghost use Rattle.palm_route.specs.Laws.{LeavesRise, LeavesAreThere, ListsMeetLeaves, KeysComeHome, PartsKeepEdits};
+ghost use Rattle.palm_route.specs.Laws.{LeavesRise, LeavesAreThere, ListsMeetLeaves, KeysComeHome, PartsKeepEdits, PartsAreCounted};
 
 /// The ranges of a lawful tree's leaves begin one after another, and there is a leaf at least. So `group` puts together what
 /// `descend` has routed down such a tree.
@@ -18,4 +18,9 @@ pub fn lists_meet_leaves()
 /// The parts of a batch ask for its edits, in their order.
 pub fn parts_keep_edits()
     ensures { PartsKeepEdits }
+{}
+
+/// How many parts a batch has goes by the tree's value, and not by the places where its nodes stand.
+pub fn parts_are_counted()
+    ensures { PartsAreCounted }
 {}
