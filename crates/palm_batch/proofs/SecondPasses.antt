@@ -13,8 +13,10 @@ use Rattle.palm_node.specs.declared.id.NodeId.{NodeId}
 use Rattle.palm_node.specs.declared.node.Node.{Node}
 use Rattle.palm_arena.specs.Leaves.{LeafPlace, leaves_at}
 use Rattle.palm_arena.specs.declared.shape.Shape.{Shape}
+use Rattle.palm_route.specs.Counts.{parts_on}
 use Rattle.palm_route.specs.Parts.{parts_of}
-use Rattle.palm_batch.specs.Costs.{batch_cost, levels_over}
+use Rattle.palm_route.proofs.CountedParts.{parts_are_counted}
+use Rattle.palm_batch.specs.Costs.{cost_on, levels_over}
 use Rattle.palm_batch.specs.Passing.{IsTree, edits_in, parts_at, set_entry}
 
 -- The Sets of rows are edits, and each has one part.
@@ -54,11 +56,29 @@ together parts orphans levels before first last one two =
     within : (x y z : ℕ) → z ≡ x + y → first ≤ before + x → last ≤ first + y → last ≤ before + z
     within x y z sum one two = omega (arith, sum, one, two)
 
+-- The first pass costs no more than its parts may over the levels of the tree before or after the batch.
+parts_cost : (tree : Tree) (batch : List Entry) (nodes : NodeId → Option Node) (shape : Shape) (before first : ℕ) → IsTree tree nodes shape
+    → first ≤ before + 2 * length (parts_at nodes shape batch) * (shape.levels + 2) → first ≤ before + 2 * parts_on tree batch * (levels_over tree batch + 2)
+parts_cost tree batch nodes shape before first is one =
+    pass_costs tree nodes shape (parts_on tree batch) (levels_over tree batch) before first is (le-max_left (levels_of tree) (levels_of (batch_tree tree (calls_of batch))))
+    (subst (λ n. first ≤ before + 2 * n * (shape.levels + 2)) (parts_are_counted nodes shape tree 0 batch is.reads-as) one)
+
+-- So the first pass alone costs no more than the batch may.
+pub first_cost : (tree : Tree) (batch : List Entry) (nodes : NodeId → Option Node) (shape : Shape) (before first : ℕ) → IsTree tree nodes shape
+    → first ≤ before + 2 * length (parts_at nodes shape batch) * (shape.levels + 2) → first ≤ before + cost_on tree batch
+first_cost tree batch nodes shape before first is one =
+    let gone = length (orphans_of tree (edits_in batch)) in
+    together (parts_on tree batch) gone (levels_over tree batch) before first first (parts_cost tree batch nodes shape before first is one)
+    (none (2 * gone * (levels_over tree batch + 2)))
+  where
+    none : (n : ℕ) → first ≤ first + n
+    none n = omega arith
+
 -- Both passes cost no more than the batch may.
 pub both_cost : (tree : Tree) (batch sets : List Entry) (orphans : List Row) (nodes between : NodeId → Option Node) (shape after : Shape) (before first last : ℕ) → IsTree tree nodes shape
     → orphans ≡ orphans_of tree (edits_in batch) → sets ≡ map set_entry orphans → IsTree (passed_tree tree (edits_in batch)) between after
     → first ≤ before + 2 * length (parts_at nodes shape batch) * (shape.levels + 2) → last ≤ first + 2 * length (parts_at between after sets) * (after.levels + 2)
-    → last ≤ before + batch_cost tree nodes shape batch
+    → last ≤ before + cost_on tree batch
 both_cost tree batch sets orphans nodes between shape after before first last is are made passed one two =
     let levels = levels_over tree batch in
     let next = passed_tree tree (edits_in batch) in
@@ -66,6 +86,5 @@ both_cost tree batch sets orphans nodes between shape after before first last is
     let many : length (parts_at between after sets) ≡ length gone = ap (λ all. length (parts_at between after all)) made ∙ parts_of_sets (leaves_at between after) 0 orphans ∙ ap length are in
     let higher = sets_keep_levels next (map set_of gone) passed.lawful (sets_are gone) in
     let most = le-max_right (levels_of tree) (levels_of (batch_tree tree (calls_of batch))) in
-    together (length (parts_at nodes shape batch)) (length gone) levels before first last
-    (pass_costs tree nodes shape (length (parts_at nodes shape batch)) levels before first is (le-max_left (levels_of tree) (levels_of (batch_tree tree (calls_of batch)))) one)
+    together (parts_on tree batch) (length gone) levels before first last (parts_cost tree batch nodes shape before first is one)
     (pass_costs next between after (length gone) levels first last passed (omega (arith, higher, most)) (subst (λ n. last ≤ first + 2 * n * (after.levels + 2)) many two))

@@ -6,7 +6,7 @@ ghost use Rattle.palm_base.specs.Lawful.{IsLawful};
 ghost use Rattle.palm_base.specs.Pass.{batch_tree};
 ghost use Rattle.palm_base.specs.Tree.{rows_of};
 ghost use Rattle.palm_tree.specs.TreeValue.{tree_in};
-ghost use Rattle.palm_batch.specs.Costs.{tree_cost};
+ghost use Rattle.palm_batch.specs.Costs.{cost_on};
 ghost use Rattle.palm_batch.specs.Passing.{LeavesOthers};
 
 use crate::passes::{Ran, run_passes};
@@ -42,8 +42,8 @@ pub fn run_batch<R: Threads + Sync, G: Gate + Sync, L: Ledger>(
     ensures lawful { IsLawful (tree_in tree.new) }
     ensures err_nodes { OnErr result (tree.new.places ≡ tree.old.places) }
     ensures err_shape { OnErr result (tree.new.shape ≡ tree.old.shape) }
-    ensures ticks { steps.new ≤ steps.old + tree_cost tree.old batch.now }
-    ensures moved { length tree.new.moved ≤ tree_cost tree.old batch.now }
+    ensures ticks { steps.new ≤ steps.old + cost_on (tree_in tree.old) batch.now }
+    ensures moved { length tree.new.moved ≤ cost_on (tree_in tree.old) batch.now }
     ensures others { LeavesOthers tree.old tree.new }
 {
     let alloc = tree.arena.allocator();

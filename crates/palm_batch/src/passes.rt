@@ -6,7 +6,7 @@ ghost use Rattle.palm_base.specs.Pass.{batch_tree};
 ghost use Rattle.palm_base.specs.Tree.{Tree, rows_of};
 ghost use Rattle.palm_arena.specs.ArenaState.{NoneLent};
 ghost use Rattle.palm_arena.specs.Reads.{map_of};
-ghost use Rattle.palm_batch.specs.Costs.{batch_cost};
+ghost use Rattle.palm_batch.specs.Costs.{cost_on};
 ghost use Rattle.palm_batch.specs.Passing.{IsTree, set_entry};
 
 use crate::pass::{Passed, run_pass};
@@ -66,7 +66,7 @@ pub(crate) fn run_passes<R: Threads + Sync, G: Gate + Sync, L: Ledger>(
     ensures replies { IfOk result (λ ran. (tree : Tree) → IsTree tree (map_of arena.old.places) shape → ran.replies.items ≡ replies_to (rows_of tree) batch.now) }
     ensures begun { arena.new.begun ≡ arena.old.begun }
     ensures none_lent { NoneLent arena.new.places }
-    ensures ticks { (tree : Tree) → IsTree tree (map_of arena.old.places) shape → steps.new ≤ steps.old + batch_cost tree (map_of arena.old.places) shape batch.now }
+    ensures ticks { (tree : Tree) → IsTree tree (map_of arena.old.places) shape → steps.new ≤ steps.old + cost_on tree batch.now }
     ensures moved { length arena.new.moved + steps.old ≤ length arena.old.moved + steps.new }
 {
     let Passed {

@@ -7,7 +7,7 @@ ghost use Rattle.palm_base.specs.Pass.{batch_tree};
 ghost use Rattle.palm_base.specs.Tree.{rows_of};
 ghost use Rattle.palm_tree.specs.TreeValue.{tree_in};
 ghost use Rattle.palm_batch.specs.declared.batch.TheConstants.{MOST_CALLS};
-ghost use Rattle.palm_batch.specs.Costs.{tree_cost};
+ghost use Rattle.palm_batch.specs.Costs.{cost_on};
 ghost use Rattle.palm_batch.specs.Passing.{LeavesOthers};
 
 use palm_base::{Entry, NoMemory, Reply, Steps};
@@ -58,8 +58,8 @@ impl Engine {
         ensures lawful { IsLawful (tree_in self.new.tree) }
         ensures err_nodes { OnErr result (self.new.tree.places ≡ self.old.tree.places) }
         ensures err_shape { OnErr result (self.new.tree.shape ≡ self.old.tree.shape) }
-        ensures ticks { steps.new ≤ steps.old + tree_cost self.old.tree (take max roll.now) }
-        ensures moved { length self.new.tree.moved ≤ tree_cost self.old.tree (take max roll.now) }
+        ensures ticks { steps.new ≤ steps.old + cost_on (tree_in self.old.tree) (take max roll.now) }
+        ensures moved { length self.new.tree.moved ≤ cost_on (tree_in self.old.tree) (take max roll.now) }
         ensures others { LeavesOthers self.old.tree self.new.tree }
     {
         let batch = first(roll, max as usize);

@@ -9,7 +9,7 @@ use Rattle.palm_arena.specs.ArenaState.{ArenaState, NoneLent, IsHeld, node_at}
 use Rattle.palm_arena.specs.Reads.{map_of}
 use Rattle.palm_tree.specs.TreeValue.{TreeState, tree_of, tree_in}
 use Rattle.palm_tree.proofs.Values.{tree_reads}
-use Rattle.palm_batch.specs.Costs.{batch_cost, tree_cost}
+use Rattle.palm_batch.specs.Costs.{cost_on}
 use Rattle.palm_batch.specs.Passing.{IsTree}
 use Rattle.palm_batch.proofs.OpenTrees.{tree_stands}
 use Rattle.palm_batch.proofs.ClosedTrees.{rows_fit, rows_stand, rows_close, rows_left, law_left, tree_closes, tree_stays, others_stay}
@@ -87,8 +87,7 @@ returns-in-Ok-clause-ticks g c =
     let tree = tree_of own.arena.places own.shape in
     let same = ap (λ (a : ArenaState). a.places) c.begin.ensures in
     let is = tree_stands own.arena c.begin.new.self own.shape own.rows c.tree.invariant same in
-    let cost = subst (λ places. c.run_passes-ran.new.steps ≤ c.args.steps.now + batch_cost tree (map_of places) own.shape c.args.batch.now) same (c.run_passes-ran.ensures.ticks tree is) in
-    subst (λ (s : TreeState). c.run_passes-ran.new.steps ≤ c.args.steps.now + tree_cost s c.args.batch.now) c.tree.view_is cost
+    subst (λ (s : TreeState). c.run_passes-ran.new.steps ≤ c.args.steps.now + cost_on (tree_in s) c.args.batch.now) c.tree.view_is (c.run_passes-ran.ensures.ticks tree is)
 
 pub returns-in-Ok-clause-moved : goal.returns-in-Ok-clause-moved
 returns-in-Ok-clause-moved g c =
@@ -96,11 +95,11 @@ returns-in-Ok-clause-moved g c =
     let tree = tree_of own.arena.places own.shape in
     let same = ap (λ (a : ArenaState). a.places) c.begin.ensures in
     let is = tree_stands own.arena c.begin.new.self own.shape own.rows c.tree.invariant same in
-    let cost = subst (λ places. c.run_passes-ran.new.steps ≤ c.args.steps.now + batch_cost tree (map_of places) own.shape c.args.batch.now) same (c.run_passes-ran.ensures.ticks tree is) in
+    let cost = c.run_passes-ran.ensures.ticks tree is in
     let none = ap (λ (a : ArenaState). length a.moved) c.begin.ensures in
     let told = ap (λ (a : ArenaState). length a.moved) c.commit.ensures.committed in
     let few = c.run_passes-ran.ensures.moved in
-    subst (λ (s : TreeState). length c.commit.new.self.moved ≤ tree_cost s c.args.batch.now) c.tree.view_is (omega (arith, cost, none, told, few))
+    subst (λ (s : TreeState). length c.commit.new.self.moved ≤ cost_on (tree_in s) c.args.batch.now) c.tree.view_is (omega (arith, cost, none, told, few))
 
 pub returns-in-Ok-clause-others : goal.returns-in-Ok-clause-others
 returns-in-Ok-clause-others g c =
@@ -117,5 +116,4 @@ returns-in-Err-clause-ticks g c =
     let tree = tree_of own.arena.places own.shape in
     let same = ap (λ (a : ArenaState). a.places) c.begin.ensures in
     let is = tree_stands own.arena c.begin.new.self own.shape own.rows c.tree.invariant same in
-    let cost = subst (λ places. c.run_passes-ran.new.steps ≤ c.args.steps.now + batch_cost tree (map_of places) own.shape c.args.batch.now) same (c.run_passes-ran.ensures.ticks tree is) in
-    subst (λ (s : TreeState). c.run_passes-ran.new.steps ≤ c.args.steps.now + tree_cost s c.args.batch.now) c.tree.view_is cost
+    subst (λ (s : TreeState). c.run_passes-ran.new.steps ≤ c.args.steps.now + cost_on (tree_in s) c.args.batch.now) c.tree.view_is (c.run_passes-ran.ensures.ticks tree is)

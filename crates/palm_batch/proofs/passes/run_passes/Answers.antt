@@ -7,7 +7,7 @@ use Rattle.palm_route.specs.Parts.{lows_of}
 use Rattle.palm_batch.specs.Passing.{edits_in, set_entry}
 use Rattle.palm_batch.specs.Replies.{AreAnswers}
 use Rattle.palm_batch.proofs.AnsweredBatches.{leaves_answer_batch}
-use Rattle.palm_batch.proofs.SecondPasses.{tree_run, both_cost}
+use Rattle.palm_batch.proofs.SecondPasses.{tree_run, first_cost, both_cost}
 use Rattle.palm_batch.proofs.passes.run_passes.Goals as goal
 
 pub join_answers-requires-clause-answers : goal.join_answers-requires-clause-answers
@@ -25,6 +25,15 @@ join_answers-requires-clause-answers g c =
 
 pub run_pass-requires-2-clause-tree : goal.run_pass-requires-2-clause-tree
 run_pass-requires-2-clause-tree g c κs within = (passed_tree c.requires.tree.0 (edits_in c.args.batch.now), c.in_ok-shape.ensures.tree c.requires.tree.0 c.requires.tree.1)
+
+pub returns-in_err-shape-clause-ticks : goal.returns-in_err-shape-clause-ticks
+returns-in_err-shape-clause-ticks g c = λ tree is. first_cost tree c.args.batch.now (map_of c.args.arena.now.places) c.args.shape c.args.steps.now c.run_pass.new.steps is c.run_pass.ensures.ticks
+
+pub returns-in_err-replies-clause-ticks : goal.returns-in_err-replies-clause-ticks
+returns-in_err-replies-clause-ticks g c = λ tree is. first_cost tree c.args.batch.now (map_of c.args.arena.now.places) c.args.shape c.args.steps.now c.run_pass.new.steps is c.run_pass.ensures.ticks
+
+pub returns-in_err-sets-clause-ticks : goal.returns-in_err-sets-clause-ticks
+returns-in_err-sets-clause-ticks g c = λ tree is. first_cost tree c.args.batch.now (map_of c.args.arena.now.places) c.args.shape c.args.steps.now c.run_pass.new.steps is c.run_pass.ensures.ticks
 
 pub returns-in_err-shape-2-clause-ticks : goal.returns-in_err-shape-2-clause-ticks
 returns-in_err-shape-2-clause-ticks g c = λ tree is.
