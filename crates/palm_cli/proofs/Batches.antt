@@ -12,6 +12,8 @@ use Rattle.palm_base.specs.Pass.{batch_tree, tree_after}
 use Rattle.palm_base.specs.Tree.{Tree, rows_of}
 use Rattle.palm_script.specs.Transcript.{Progress, come_to, after_batch, batch_text, batches_text, cut_by}
 use Rattle.palm_script.specs.declared.dump.DumpWhen.{DumpWhen}
+use Rattle.palm_batch.specs.Costs.{cost_on}
+use Rattle.palm_cli.specs.Costs.{batches_cost}
 
 -- the last length, where it isn't 0
 abbrev left_over : ℕ → List ℕ
@@ -76,3 +78,17 @@ tree_more most tree next all rest batch left some more batch-is left-is next-is 
     ∙ ap (λ (b : List Entry). tree_after (batch_tree tree (calls_of b)) left lengths) batch-is
     ∙ ap (λ (l : List Entry). tree_after (batch_tree tree (calls_of (take k rest))) l lengths) left-is
     ∙ sym (ap (tree_after tree rest) cut) ∙ whole
+
+-- A batch more was run: what it and those that are left may take is what all that was left might.
+pub cost_more : (most : ℕ) (tree next : Tree) (rest batch left : List Entry) → 1 ≤ most → 0 < length rest
+    → batch ≡ take (min (length rest) most) rest → left ≡ drop (min (length rest) most) rest → next ≡ batch_tree tree (calls_of batch)
+    → batches_cost tree rest (cut_by most (length rest)) ≡ cost_on tree batch + batches_cost next left (cut_by most (length left))
+cost_more most tree next rest batch left some more batch-is left-is next-is =
+    let k : ℕ = min (length rest) most in
+    let fewer : length rest - k ≡ length left = omega (arith, length-drop k rest, ap length left-is) in
+    let lengths = cut_by most (length left) in
+    let cut : cut_by most (length rest) ≡ k ∷ lengths = cut_by-more most (length rest) some more ∙ ap (λ (m : ℕ). k ∷ cut_by most m) fewer in
+    ap (batches_cost tree rest) cut
+    ∙ ap (λ (b : List Entry). cost_on tree b + batches_cost (batch_tree tree (calls_of b)) (drop k rest) lengths) (sym batch-is)
+    ∙ ap (λ (l : List Entry). cost_on tree batch + batches_cost (batch_tree tree (calls_of batch)) l lengths) (sym left-is)
+    ∙ ap (λ (t : Tree). cost_on tree batch + batches_cost t left lengths) (sym next-is)

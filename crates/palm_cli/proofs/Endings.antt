@@ -1,5 +1,5 @@
 -- The transcript of a run, as far as it is written, and what it leaves.
-use Rattle.std.proofs.Common.{◌≡◌, ℕ, zero, Bool, true, false, List, [], ◌++◌, Option, refl, sym, ap, subst, ◌∙◌, arith}
+use Rattle.std.proofs.Common.{◌≡◌, ℕ, zero, ◌+◌, ◌≤◌, Bool, true, false, List, [], ◌++◌, Option, refl, sym, ap, subst, ◌∙◌, arith}
 use Rattle.std.specs.Io.KnownBytes.{Appends}
 use Rattle.std.proofs.KnownBytes.{Appends-trans}
 use Rattle.std.proofs.lemmas.List.{append-nil}
@@ -12,6 +12,7 @@ use Rattle.palm_words.specs.declared.settings.Settings.{Settings}
 use Rattle.palm_base.specs.declared.call.Entry.{Entry}
 use Rattle.palm_cli.specs.Ends.{run_of, tree_said}
 use Rattle.palm_script.specs.declared.dump.DumpWhen.{DumpWhen}
+use Rattle.palm_cli.specs.Costs.{sections_cost, run_cost}
 use Rattle.palm_cli.specs.Streams.{AppendsFront, text_to}
 use Rattle.palm_cli.proofs.Fronts.{front_longer, front_more}
 
@@ -64,3 +65,11 @@ said_front settings outcome script ends a b says front = subst (λ (run : List S
 pub said_tree : (settings : Settings) (outcome : Outcome) (script : Script) (after : Tree) → Says outcome script
     → after ≡ (after_run (sections_by settings.batch script.entries.items script.ends.items)).tree → after ≡ tree_said settings outcome
 said_tree settings outcome script after says tree = tree ∙ ap (λ (run : List Section). (after_run run).tree) (said_run settings outcome script says)
+
+pub said_cost : (settings : Settings) (outcome : Outcome) (script : Script) (before now : ℕ) → Says outcome script
+    → now ≤ before + run_cost (sections_by settings.batch script.entries.items script.ends.items) → now ≤ before + run_cost (run_of settings outcome)
+said_cost settings outcome script before now says few = omega (arith, few, ap run_cost (said_run settings outcome script says))
+
+-- What the sections of a run may take from the empty tree is what the run may.
+pub cost_of_run : (tree : Tree) (run : List Section) (before now : ℕ) → tree ≡ (zero, []) → now ≤ before + sections_cost tree run → now ≤ before + run_cost run
+cost_of_run tree run before now is few = omega (arith, few, ap (λ (t : Tree). sections_cost t run) is)

@@ -16,6 +16,7 @@ use Rattle.palm_script.specs.Laws.{FaultsStand}
 use Rattle.palm_script.specs.Script.{Outcome, script_of}
 use Rattle.palm_words.specs.declared.settings.Settings.{Settings}
 use Rattle.palm_cli.specs.Ends.{Outside, EndsAs, IsGood, IsBad, IsLong, IsCutShort, run_of, tree_said, text_said, final_said}
+use Rattle.palm_cli.specs.Costs.{run_cost}
 use Rattle.palm_cli.specs.Stops.{ended_by}
 use Rattle.palm_cli.specs.Streams.{text_to}
 use Rattle.palm_cli.proofs.Fronts.{front_whole}
@@ -148,18 +149,27 @@ bad_script stands settings (Some b) (Some r) before now bytes Long outcome ends 
 
 -- ---- all ends
 
+-- No more steps were counted than the batches of the whole script may take.
+few_steps : (settings : Settings) (left rest : Option (List ℕ)) (before now : ℕ) (bytes : List ℕ) (outcome : Outcome) (s0 s1 : ℕ) → IsRead left rest before now bytes Whole → script_of bytes true ≡ outcome
+    → s1 ≤ s0 + run_cost (run_of settings outcome) → IfSome left (λ b. s1 ≤ s0 + run_cost (run_of settings (script_of b true)))
+few_steps settings None rest before now bytes outcome s0 s1 read same few = tt
+few_steps settings (Some b) None before now bytes outcome s0 s1 read same few = absurd read.0
+few_steps settings (Some b) (Some r) before now bytes outcome s0 s1 read same few =
+    let whole : b ≡ bytes = read.0 ∙ ap (λ (l : List ℕ). bytes ++ l) read.1 ∙ append-nil bytes in
+    subst (λ (o : Outcome). s1 ≤ s0 + run_cost (run_of settings o)) (sym (ap (λ (l : List ℕ). script_of l true) whole ∙ same)) few
+
 -- Where all was run that was read of a script.
 pub run_ends : FaultsStand → (settings : Settings) (o : Outside) (bytes : List ℕ) (end : InputEnd) (outcome : Outcome) (ends : Bool) (after : Tree)
     → IsRead o.left o.rest o.reads_before o.reads_now bytes end → length bytes ≤ MOST_BYTES → script_of bytes (is_whole end) ≡ outcome → ends ≡ is_whole end && is_none outcome.fault
-    → Ran settings outcome ends o.taken o.now after → o.writes_now ≡ o.writes_before → (fault : Option LineFault) → outcome.fault ≡ fault → EndsAs settings (ended_by fault end) o after
-run_ends stands settings o bytes end outcome ends after read most same ends-is ran kept (Some fault) is = (
+    → Ran settings outcome ends o.taken o.now after → o.writes_now ≡ o.writes_before → o.steps_now ≤ o.steps_before + run_cost (run_of settings outcome) → (fault : Option LineFault) → outcome.fault ≡ fault → EndsAs settings (ended_by fault end) o after
+run_ends stands settings o bytes end outcome ends after read most same ends-is ran kept few (Some fault) is = (
   bad_script stands settings o.left o.rest o.reads_before o.reads_now bytes end outcome ends fault o.taken o.now after read most same is ends-is ran,
   stopped settings o.left o.rest o.taken o.now o.reads_before o.reads_now bytes end outcome ends read most same ends-is (front_whole o.taken o.now (text_to settings.dump ends (run_of settings outcome)) ran.text),
 )
-run_ends stands settings o bytes Whole outcome ends after read most same ends-is ran kept None is =
+run_ends stands settings o bytes Whole outcome ends after read most same ends-is ran kept few None is =
     let good = good_script settings o.left o.rest o.reads_before o.reads_now bytes Whole outcome ends o.taken o.now after refl read most same is ends-is ran in
-    (good.0, good.1, good.2, kept)
-run_ends stands settings o bytes Failed outcome ends after read most same ends-is ran kept None is =
+    (good.0, good.1, good.2, kept, few_steps settings o.left o.rest o.reads_before o.reads_now bytes outcome o.steps_before o.steps_now read same few)
+run_ends stands settings o bytes Failed outcome ends after read most same ends-is ran kept few None is =
     cut_script settings o.left o.rest o.reads_before o.reads_now bytes Failed outcome ends o.taken o.now after refl read same is ends-is ran
-run_ends stands settings o bytes Long outcome ends after read most same ends-is ran kept None is =
+run_ends stands settings o bytes Long outcome ends after read most same ends-is ran kept few None is =
     long_script settings o.left o.rest o.reads_before o.reads_now bytes Long outcome ends o.taken o.now after refl read most same is ends-is ran

@@ -8,6 +8,7 @@ use Rattle.palm_base.specs.declared.row.Row.{Row}
 use Rattle.palm_script.specs.Transcript.{Progress, Section, come_to, section_by, sections_by, section_text, sections_text, after_section, after_sections}
 use Rattle.palm_script.specs.declared.dump.DumpWhen.{DumpWhen}
 use Rattle.palm_script.specs.declared.script.SectionEnd.{SectionEnd}
+use Rattle.palm_cli.specs.Costs.{batches_cost, sections_cost}
 
 -- how far a tree and a table have come that were left by the calls of a section
 pub came_on : (n : ℕ) (old new : Tree) (section : Section) → new ≡ tree_after old section.history section.cutting → rows_of new ≡ table_after (rows_of old) section.history
@@ -34,3 +35,8 @@ pub next_section : (most : ℕ) (rest calls after : List Entry) (end : SectionEn
 next_section most rest calls after end ends front back =
     ap (λ (l : List Entry). section_by most l end.dumps ∷ sections_by most (drop end.calls rest) ends) (sym front)
     ∙ ap (λ (l : List Entry). section_by most calls end.dumps ∷ sections_by most l ends) (sym back)
+
+-- A section more was run: what it and the others may take is what all might.
+pub section_cost : (at next : Progress) (section : Section) (others : List Section) → after_section at section ≡ next
+    → sections_cost at.tree (section ∷ others) ≡ batches_cost at.tree section.history section.cutting + sections_cost next.tree others
+section_cost at next section others is = ap (λ (to : Progress). batches_cost at.tree section.history section.cutting + sections_cost to.tree others) is

@@ -21,10 +21,10 @@ stop_ends settings stops.Memory o after rose stopped = stopped
 stop_ends settings stops.Write o after rose stopped = (rose refl, stopped)
 
 -- Memory was refused while the words were read, before anything else was done.
-pub memory_ends : (found : Option Settings) (left taken : Option (List ℕ)) (reads writes : ℕ) (after : Tree)
-    → HasEnded found NoMemory (record { left = left; rest = left; taken = taken; now = taken; reads_before = reads; reads_now = reads; writes_before = writes; writes_now = writes }) after
-memory_ends None left taken reads writes after = inr refl
-memory_ends (Some settings) left taken reads writes after = stopped_at_once settings left left taken ([], Consumes-nil left)
+pub memory_ends : (found : Option Settings) (left taken : Option (List ℕ)) (reads writes steps : ℕ) (after : Tree)
+    → HasEnded found NoMemory (record { left = left; rest = left; taken = taken; now = taken; reads_before = reads; reads_now = reads; writes_before = writes; writes_now = writes; steps_before = steps; steps_now = steps }) after
+memory_ends None left taken reads writes steps after = inr refl
+memory_ends (Some settings) left taken reads writes steps after = stopped_at_once settings left left taken ([], Consumes-nil left)
 
 -- For the line of a fault memory may be refused in the end.
 pub told_ends : (found : Option Settings) (status told : Status) (o : Outside) (after : Tree) → (told ≡ status) ⊎ ((told ≡ NoMemory) × (code_of status ≡ 3)) → HasEnded found status o after → HasEnded found told o after

@@ -1,5 +1,5 @@
 -- How a run of the program ends: what was read, what was written, and what is told.
-use Rattle.std.specs.Prelude.{◌≡◌, ℕ, ◌-◌, ◌^◌, ◌<◌, ◌≤◌, ◌⊎◌, Bool, true, false, List, [], ◌++◌, length, take, codes, IfSome, is_some, if◌then◌else◌, Some, None, Option}
+use Rattle.std.specs.Prelude.{◌≡◌, ℕ, ◌+◌, ◌-◌, ◌^◌, ◌<◌, ◌≤◌, ◌⊎◌, Bool, true, false, List, [], ◌++◌, length, take, codes, IfSome, is_some, if◌then◌else◌, Some, None, Option}
 use Rattle.std.specs.Io.KnownBytes.{Appends, Consumes, IsAtEnd}
 use Rattle.palm_base.specs.Tree.{Tree}
 use Rattle.palm_script.specs.Causes.{Rose}
@@ -9,6 +9,7 @@ use Rattle.palm_script.specs.Transcript.{Section, straight, after_run, text_of, 
 use Rattle.palm_script.specs.declared.input.TheConstants.{MOST_BYTES}
 use Rattle.palm_script.specs.declared.line.LineFault.{LineFault}
 use Rattle.palm_words.specs.declared.settings.Settings.{Settings}
+use Rattle.palm_cli.specs.Costs.{run_cost}
 use Rattle.palm_cli.specs.Streams.{AppendsFront, Told}
 use Rattle.palm_cli.specs.declared.status.Status.{Status}
 use Rattle.palm_cli.specs.declared.status.Status.TheVariants.{Done, Usage, Bad, ReadFault, WriteFault, NoMemory, TooLong}
@@ -76,7 +77,7 @@ IsStopped settings read rest old new =
     ⊎ (IsAtEnd rest × (length read ≤ MOST_BYTES) × AppendsFront old new (all_said settings (script_of read true)))
 
 -- What surrounds a run: the bytes that its source had left before and has now, those that its sink had taken before and has
--- now, where they are told, and the counts of faults of both, before and now.
+-- now, where they are told, the counts of faults of both, before and now, and how many steps were counted.
 pub record Outside : Type 0 where
   pub left : Option (List ℕ)
   pub rest : Option (List ℕ)
@@ -86,6 +87,8 @@ pub record Outside : Type 0 where
   pub reads_now : ℕ
   pub writes_before : ℕ
   pub writes_now : ℕ
+  pub steps_before : ℕ
+  pub steps_now : ℕ
 
 -- The run stopped after some bytes were read.
 abbrev pub HasStopped : Settings → Outside → Type 0
@@ -95,6 +98,7 @@ HasStopped settings o = (read : List ℕ) × Consumes o.left o.rest read × IsSt
 abbrev pub EndsAs : Settings → Status → Outside → Tree → Type 0
 EndsAs settings Done o after =
     IfSome o.left (λ b. IsGood settings b o.taken o.now after) × IsAtEnd o.rest × (o.reads_now ≡ o.reads_before) × (o.writes_now ≡ o.writes_before)
+    × IfSome o.left (λ b. o.steps_now ≤ o.steps_before + run_cost (run_of settings (script_of b true)))
 EndsAs settings Usage o after = ⊥
 EndsAs settings (Bad fault) o after = IfSome o.left (λ b. IsBad settings b fault o.taken o.now after) × HasStopped settings o
 EndsAs settings ReadFault o after =

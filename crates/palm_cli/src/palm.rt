@@ -1,4 +1,4 @@
-ghost use Rattle.std.specs.Prelude.{◌≡◌, ◌<◌, ◌^◌, ◌-◌, ◌⊎◌, [], map, IfSome, IsSome, None, string_bytes, List, ℕ};
+ghost use Rattle.std.specs.Prelude.{◌≡◌, ◌+◌, ◌<◌, ◌≤◌, true, ◌^◌, ◌-◌, ◌⊎◌, [], map, IfSome, IsSome, None, string_bytes, List, ℕ};
 ghost use Rattle.std.specs.Io.KnownBytes.{Consumes, IsAtEnd};
 ghost use Rattle.std.proofs.Common.{zero};
 ghost use Rattle.palm_base.specs.Lawful.{IsLawful};
@@ -6,7 +6,9 @@ ghost use Rattle.palm_tree.specs.TreeValue.{tree_in};
 ghost use Rattle.palm_script.specs.Causes.{Rose};
 ghost use Rattle.palm_script.specs.declared.line.LineFault.{LineFault};
 ghost use Rattle.palm_words.specs.Settings.{settings_of};
-ghost use Rattle.palm_cli.specs.Ends.{code_of, status_text, fault_line, HasEnded, IsGood, IsBad, IsLong, IsCutShort, IsStopped};
+ghost use Rattle.palm_script.specs.Script.{script_of};
+ghost use Rattle.palm_cli.specs.Costs.{run_cost};
+ghost use Rattle.palm_cli.specs.Ends.{code_of, status_text, fault_line, run_of, HasEnded, IsGood, IsBad, IsLong, IsCutShort, IsStopped};
 ghost use Rattle.palm_cli.specs.Streams.{Told};
 ghost use Rattle.palm_cli.specs.declared.status.Status.{Status};
 
@@ -33,7 +35,7 @@ fn run_words<R: Threads + Sync, S: Source, O: Sink, G: Gate + Sync, L: Ledger>(
     steps: &mut Steps<L>,
 ) -> Status
     requires new { tree_in engine.old.tree ≡ (zero, []) }
-    ensures end { HasEnded (settings_of (map string_bytes words.now.items)) result (record { left = S.left src.old; rest = S.left src.new; taken = O.taken out.old; now = O.taken out.new; reads_before = S.faults src.old; reads_now = S.faults src.new; writes_before = O.faults out.old; writes_now = O.faults out.new }) (tree_in engine.new.tree) }
+    ensures end { HasEnded (settings_of (map string_bytes words.now.items)) result (record { left = S.left src.old; rest = S.left src.new; taken = O.taken out.old; now = O.taken out.new; reads_before = S.faults src.old; reads_now = S.faults src.new; writes_before = O.faults out.old; writes_now = O.faults out.new; steps_before = steps.old; steps_now = steps.new }) (tree_in engine.new.tree) }
     ensures nothing { settings_of (map string_bytes words.now.items) ≡ None → (src.new ≡ src.old) × (out.new ≡ out.old) × (engine.new ≡ engine.old) }
     ensures lawful { IsLawful (tree_in engine.new.tree) }
 {
@@ -78,9 +80,11 @@ pub fn palm<R: Threads + Sync, S: Source, O: Sink, E: Sink, G: Gate + Sync, L: L
     // The engine's tree is lawful, however the run ends.
     ensures lawful { IsLawful (tree_in engine.new.tree) }
 
-    // 0: all was read, every line is good, the whole transcript was taken, and nothing failed. The tree is that of all calls.
+    // 0: all was read, every line is good, the whole transcript was taken, and nothing failed. The tree is that of all calls, and
+    // no more steps were counted than the batches may take.
     ensures good { result ≡ 0 → IfSome (settings_of (map string_bytes words.now.items)) (λ settings. IfSome (S.left src.old) (λ b. IsGood settings b (O.taken out.old) (O.taken out.new) (tree_in engine.new.tree))) }
     ensures whole { result ≡ 0 → IsAtEnd (S.left src.new) }
+    ensures ticks { result ≡ 0 → IfSome (settings_of (map string_bytes words.now.items)) (λ settings. IfSome (S.left src.old) (λ b. steps.new ≤ steps.old + run_cost (run_of settings (script_of b true)))) }
     ensures kept { result ≡ 0 → (S.faults src.new ≡ S.faults src.old) × (O.faults out.new ≡ O.faults out.old) }
 
     // 2 comes exactly where the words aren't of the form, but for want of memory, and then nothing is read or written.

@@ -1,5 +1,5 @@
 // The mode `replay`: a script is read, run in the order of its lines, and its transcript written.
-ghost use Rattle.std.specs.Prelude.{◌≡◌, ◌≤◌, ◌&&◌, [], is_none, length, sum_by, OnOk, OnErr, IsErrOf};
+ghost use Rattle.std.specs.Prelude.{◌≡◌, ◌+◌, ◌≤◌, ◌&&◌, [], is_none, length, sum_by, OnOk, OnErr, IsErrOf};
 ghost use Rattle.std.specs.Io.KnownBytes.{Appends};
 ghost use Rattle.std.proofs.Common.{zero};
 ghost use Rattle.palm_base.specs.Lawful.{IsLawful};
@@ -8,6 +8,7 @@ ghost use Rattle.palm_script.specs.Causes.{Rose};
 ghost use Rattle.palm_script.specs.Input.{is_whole};
 ghost use Rattle.palm_script.specs.Transcript.{after_run, sections_by};
 ghost use Rattle.palm_words.specs.Settings.{AreWithin};
+ghost use Rattle.palm_cli.specs.Costs.{run_cost};
 ghost use Rattle.palm_cli.specs.Ends.{EndsAs};
 ghost use Rattle.palm_cli.specs.Stops.{ended_by};
 ghost use Rattle.palm_cli.specs.Streams.{AppendsFront, text_to};
@@ -77,6 +78,7 @@ fn run_script<R: Threads + Sync, O: Sink, G: Gate + Sync, L: Ledger>(
     ensures text { OnOk result (Appends (O.taken out.old) (O.taken out.new) (text_to settings.now.dump ends (sections_by settings.now.batch script.now.entries.items script.now.ends.items))) }
     ensures front { OnErr result (AppendsFront (O.taken out.old) (O.taken out.new) (text_to settings.now.dump ends (sections_by settings.now.batch script.now.entries.items script.now.ends.items))) }
     ensures tree { OnOk result (tree_in engine.new.tree ≡ (after_run (sections_by settings.now.batch script.now.entries.items script.now.ends.items)).tree) }
+    ensures ticks { OnOk result (steps.new ≤ steps.old + run_cost (sections_by settings.now.batch script.now.entries.items script.now.ends.items)) }
     ensures lawful { IsLawful (tree_in engine.new.tree) }
     ensures kept { OnOk result (O.faults out.new ≡ O.faults out.old) }
     ensures cause { IsErrOf result Stop.Write → Rose (O.faults out.old) (O.faults out.new) }
@@ -113,7 +115,7 @@ pub fn replay<R: Threads + Sync, S: Source, O: Sink, G: Gate + Sync, L: Ledger>(
 ) -> Status
     requires settings { AreWithin settings.now }
     requires new { tree_in engine.old.tree ≡ (zero, []) }
-    ensures end { EndsAs settings.now result (record { left = S.left src.old; rest = S.left src.new; taken = O.taken out.old; now = O.taken out.new; reads_before = S.faults src.old; reads_now = S.faults src.new; writes_before = O.faults out.old; writes_now = O.faults out.new }) (tree_in engine.new.tree) }
+    ensures end { EndsAs settings.now result (record { left = S.left src.old; rest = S.left src.new; taken = O.taken out.old; now = O.taken out.new; reads_before = S.faults src.old; reads_now = S.faults src.new; writes_before = O.faults out.old; writes_now = O.faults out.new; steps_before = steps.old; steps_now = steps.new }) (tree_in engine.new.tree) }
     ensures lawful { IsLawful (tree_in engine.new.tree) }
 {
     laws::faults_stand();

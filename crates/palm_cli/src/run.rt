@@ -6,9 +6,11 @@ ghost use Rattle.palm_base.specs.Lawful.{IsLawful};
 ghost use Rattle.palm_base.specs.Pass.{batch_tree, tree_after};
 ghost use Rattle.palm_base.specs.Tree.{rows_of};
 ghost use Rattle.palm_tree.specs.TreeValue.{tree_in};
+ghost use Rattle.palm_batch.specs.Costs.{cost_on};
 ghost use Rattle.palm_script.specs.Causes.{Rose};
 ghost use Rattle.palm_script.specs.Transcript.{reply_lines, come_to, dump_text, batch_text, batches_text, section_text, sections_text, ending, cut_by, section_by, sections_by, after_section, after_sections};
 ghost use Rattle.palm_words.specs.Settings.{AreWithin};
+ghost use Rattle.palm_cli.specs.Costs.{batches_cost, sections_cost};
 ghost use Rattle.palm_cli.specs.Streams.{AppendsFront};
 ghost use Rattle.palm_cli.specs.declared.run.Stop.TheVariants as stops;
 
@@ -93,6 +95,7 @@ fn replay_batch<R: Threads + Sync, G: Gate + Sync, L: Ledger>(
     ensures tree { OnOk result (tree_in engine.new.tree ≡ batch_tree (tree_in engine.old.tree) (calls_of batch.now)) }
     ensures rows { OnOk result (rows_of (tree_in engine.new.tree) ≡ table_after (rows_of (tree_in engine.old.tree)) batch.now) }
     ensures lawful { IsLawful (tree_in engine.new.tree) }
+    ensures ticks { OnOk result (steps.new ≤ steps.old + cost_on (tree_in engine.old.tree) batch.now) }
 {
     laws::replies_stand_in_place();
     let replies = engine.run_list(rt, batch, settings.batch, settings.workers, gate, steps)?;
@@ -121,6 +124,7 @@ fn run_batches<R: Threads + Sync, O: Sink, G: Gate + Sync, L: Ledger>(
     ensures front { OnErr result (AppendsFront (O.taken out.old) (O.taken out.new) (batches_text settings.now.dump (come_to n (tree_in engine.old.tree)) calls.now (cut_by settings.now.batch (length calls.now)))) }
     ensures tree { OnOk result (tree_in engine.new.tree ≡ tree_after (tree_in engine.old.tree) calls.now (cut_by settings.now.batch (length calls.now))) }
     ensures rows { OnOk result (rows_of (tree_in engine.new.tree) ≡ table_after (rows_of (tree_in engine.old.tree)) calls.now) }
+    ensures ticks { OnOk result (steps.new ≤ steps.old + batches_cost (tree_in engine.old.tree) calls.now (cut_by settings.now.batch (length calls.now))) }
     ensures lawful { IsLawful (tree_in engine.new.tree) }
     ensures kept { OnOk result (O.faults out.new ≡ O.faults out.old) }
     ensures cause { IsErrOf result Stop.Write → Rose (O.faults out.old) (O.faults out.new) }
@@ -159,6 +163,7 @@ fn run_section<R: Threads + Sync, O: Sink, G: Gate + Sync, L: Ledger>(
     ensures text { OnOk result (Appends (O.taken out.old) (O.taken out.new) (section_text settings.now.dump (come_to n (tree_in engine.old.tree)) (section_by settings.now.batch calls.now dumps))) }
     ensures front { OnErr result (AppendsFront (O.taken out.old) (O.taken out.new) (section_text settings.now.dump (come_to n (tree_in engine.old.tree)) (section_by settings.now.batch calls.now dumps))) }
     ensures after { OnOk result (after_section (come_to n (tree_in engine.old.tree)) (section_by settings.now.batch calls.now dumps) ≡ come_to (n + length calls.now) (tree_in engine.new.tree)) }
+    ensures ticks { OnOk result (steps.new ≤ steps.old + batches_cost (tree_in engine.old.tree) calls.now (cut_by settings.now.batch (length calls.now))) }
     ensures lawful { IsLawful (tree_in engine.new.tree) }
     ensures kept { OnOk result (O.faults out.new ≡ O.faults out.old) }
     ensures cause { IsErrOf result Stop.Write → Rose (O.faults out.old) (O.faults out.new) }
@@ -193,6 +198,7 @@ pub fn run_sections<R: Threads + Sync, O: Sink, G: Gate + Sync, L: Ledger>(
     ensures text { OnOk result (Appends (O.taken out.old) (O.taken out.new) (sections_text settings.now.dump (come_to 0 (tree_in engine.old.tree)) (sections_by settings.now.batch entries.now ends.now))) }
     ensures front { OnErr result (AppendsFront (O.taken out.old) (O.taken out.new) (sections_text settings.now.dump (come_to 0 (tree_in engine.old.tree)) (sections_by settings.now.batch entries.now ends.now))) }
     ensures after { OnOk result (after_sections (come_to 0 (tree_in engine.old.tree)) (sections_by settings.now.batch entries.now ends.now) ≡ come_to (length entries.now) (tree_in engine.new.tree)) }
+    ensures ticks { OnOk result (steps.new ≤ steps.old + sections_cost (tree_in engine.old.tree) (sections_by settings.now.batch entries.now ends.now)) }
     ensures lawful { IsLawful (tree_in engine.new.tree) }
     ensures kept { OnOk result (O.faults out.new ≡ O.faults out.old) }
     ensures cause { IsErrOf result Stop.Write → Rose (O.faults out.old) (O.faults out.new) }

@@ -32,6 +32,15 @@ returns-clause-kept g c = λ is.
     let end = done_ended found told _ after ended (sym c.code.ensures ∙ is) in
     (end.end.2, end.end.3)
 
+pub returns-clause-ticks : goal.returns-clause-ticks
+returns-clause-ticks g c = λ is.
+    let found = settings_of (map string_bytes c.args.words.now.items) in
+    let told = c.tell.result in
+    let after = tree_in c.run_words-status.new.engine.tree in
+    let ended = told_ends found c.run_words-status.result told _ after c.tell.ensures.same c.run_words-status.ensures.end in
+    let end = done_ended found told _ after ended (sym c.code.ensures ∙ is) in
+    where_some _ found end.settings end.form end.end.4
+
 pub returns-clause-usage : goal.returns-clause-usage
 returns-clause-usage g c = λ is.
     let found = settings_of (map string_bytes c.args.words.now.items) in

@@ -5,7 +5,7 @@ use Rattle.palm_script.specs.Input.{is_whole}
 use Rattle.palm_script.specs.Script.{Outcome, Says, script_of}
 use Rattle.palm_cli.specs.Ends.{EndsAs}
 use Rattle.palm_cli.specs.declared.status.Status.{Status}
-use Rattle.palm_cli.proofs.Endings.{empty_is_lawful, said_text, said_front, said_tree}
+use Rattle.palm_cli.proofs.Endings.{empty_is_lawful, said_text, said_front, said_tree, said_cost}
 use Rattle.palm_cli.proofs.Outcomes.{Ran, run_ends}
 use Rattle.palm_cli.proofs.Statuses.{stop_ends}
 use Rattle.palm_cli.proofs.Stopped.{stopped}
@@ -47,5 +47,5 @@ returns-clause-end g c =
     } in
     rw c.end_by.ensures (
     run_ends c.faults_stand.ensures settings _ bytes end outcome c.is_finished-ends.result (tree_in c.run_script.new.engine.tree)
-    c.in-Ok.ensures.read c.in-Ok.ensures.most refl ends ran c.in_default-run_script.ensures.kept script.fault (sym says.fault)
+    c.in-Ok.ensures.read c.in-Ok.ensures.most refl ends ran c.in_default-run_script.ensures.kept (said_cost settings outcome script _ _ says c.in_default-run_script.ensures.ticks) script.fault (sym says.fault)
     )

@@ -2,7 +2,7 @@ use Rattle.std.proofs.Common.{◌≡◌, ℕ, ap, sym, ◌∙◌}
 use Rattle.std.proofs.lemmas.Result.{on_ok_weaker, on_err_weaker}
 use Rattle.palm_tree.specs.TreeValue.{tree_in}
 use Rattle.palm_script.specs.Transcript.{Progress, sections_by, come_to}
-use Rattle.palm_cli.proofs.Endings.{empty_is_lawful, run_comes_to, run_text, run_front, text_front, text_ended, end_front}
+use Rattle.palm_cli.proofs.Endings.{empty_is_lawful, cost_of_run, run_comes_to, run_text, run_front, text_front, text_ended, end_front}
 use Rattle.palm_cli.proofs.Fronts.{on_err}
 use Rattle.palm_cli.proofs.replay.run_script.Goals as goal
 
@@ -57,4 +57,16 @@ returns-clause-tree g c =
     on_ok_weaker c.write_ending.result
     (λ took. sym (ap (λ (at : Progress). at.tree) (run_comes_to (tree_in c.args.engine.now.tree) (tree_in c.run_sections.new.engine.tree) run _ c.requires.new c.in_ok-run_sections.ensures.after)))
     c.write_ending.ensures.text
+    )
+
+pub returns-then-not-ends-clause-ticks : goal.returns-then-not-ends-clause-ticks
+returns-then-not-ends-clause-ticks g c =
+    let run = sections_by c.args.settings.now.batch c.deref.result.now c.deref-2.result.now in
+    rw (← c.deref.ensures.value, ← c.deref-2.ensures.value) (cost_of_run (tree_in c.args.engine.now.tree) run _ _ c.requires.new c.in_ok-run_sections.ensures.ticks)
+
+pub returns-clause-ticks : goal.returns-clause-ticks
+returns-clause-ticks g c =
+    let run = sections_by c.args.settings.now.batch c.deref.result.now c.deref-2.result.now in
+    rw (← c.deref.ensures.value, ← c.deref-2.ensures.value) (
+    on_ok_weaker c.write_ending.result (λ took. cost_of_run (tree_in c.args.engine.now.tree) run _ _ c.requires.new c.in_ok-run_sections.ensures.ticks) c.write_ending.ensures.text
     )

@@ -7,7 +7,7 @@ use Rattle.palm_base.proofs.Histories.{table_after-append}
 use Rattle.palm_tree.specs.TreeValue.{tree_in}
 use Rattle.palm_script.specs.Transcript.{come_to, batch_text, batches_text, cut_by}
 use Rattle.palm_cli.specs.Streams.{AppendsFront}
-use Rattle.palm_cli.proofs.Batches.{came_on, written_more, tree_more}
+use Rattle.palm_cli.proofs.Batches.{came_on, cost_more, written_more, tree_more}
 use Rattle.palm_cli.proofs.Fronts.{on_err, front_now, front_more}
 use Rattle.palm_cli.proofs.run.run_batches.Goals as goal
 
@@ -61,6 +61,7 @@ loop-rest-preserved g c =
       tree = tree_more most now next _ rest batch left c.requires.settings.some_batch some front back c.in_ok-replay_batch.ensures.tree c.loop-rest.invariant.tree;
       rows = rw (c.in_ok-replay_batch.ensures.rows, ← table_after-append (rows_of now) batch left, front, back, take-append-drop k rest) c.loop-rest.invariant.rows;
       lawful = c.replay_batch.ensures.lawful;
+      ticks = omega (arith, cost_more most now next rest batch left c.requires.settings.some_batch some front back c.in_ok-replay_batch.ensures.tree, c.in_ok-replay_batch.ensures.ticks, c.loop-rest.invariant.ticks);
       most = c.loop-rest.invariant.most;
       place = omega (arith, c.loop-rest.invariant.place, c.split_at.ensures.front_len, c.split_at.ensures.back_len);
       faults = c.in_ok-write_all.ensures.cause.kept ∙ c.loop-rest.invariant.faults;

@@ -1,4 +1,4 @@
-use Rattle.std.proofs.Common.{◌≡◌, ℕ, ◌+◌, ◌++◌, List, length}
+use Rattle.std.proofs.Common.{◌≡◌, ℕ, ◌+◌, ◌≤◌, ◌++◌, List, length}
 use Rattle.std.specs.Io.KnownBytes.{Appends}
 use Rattle.palm_base.specs.History.{table_after}
 use Rattle.palm_base.specs.Lawful.{IsLawful}
@@ -6,6 +6,7 @@ use Rattle.palm_base.specs.Pass.{tree_after}
 use Rattle.palm_base.specs.Tree.{rows_of}
 use Rattle.palm_script.specs.Transcript.{come_to, batches_text, cut_by}
 use Rattle.palm_tree.specs.TreeValue.{tree_in}
+use Rattle.palm_cli.specs.Costs.{batches_cost}
 use Rattle.palm_cli.proofs.run.run_batches.Given as goal
 
 -- what was written so far, with the text of what is left, is the whole text, and what is left leaves the whole tree
@@ -23,6 +24,7 @@ invariant-loop-rest g l =
       tree : tree_after now l.rest lengths ≡ tree_after first l.calls all;
       rows : table_after (rows_of now) l.rest ≡ table_after (rows_of first) l.calls;
       lawful : IsLawful now;
+      ticks : l.steps + batches_cost now l.rest lengths ≤ l.fn.steps + batches_cost first l.calls all;
       most : l.most ≡ l.settings.batch;
       place : l.at + length l.rest ≡ l.n + length l.calls;
       faults : faults l.out ≡ faults l.fn.out;

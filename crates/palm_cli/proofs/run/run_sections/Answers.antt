@@ -9,9 +9,10 @@ use Rattle.palm_base.specs.declared.call.Entry.{Entry}
 use Rattle.palm_tree.specs.TreeValue.{tree_in}
 use Rattle.palm_script.specs.Transcript.{Section, come_to, section_by, sections_by, section_text, sections_text, after_section, after_sections}
 use Rattle.palm_script.specs.declared.script.SectionEnd.{SectionEnd}
+use Rattle.palm_cli.specs.Costs.{sections_cost}
 use Rattle.palm_cli.specs.Streams.{AppendsFront}
 use Rattle.palm_cli.proofs.Fronts.{on_err, front_more}
-use Rattle.palm_cli.proofs.Sections.{next_section, section_written, section_run}
+use Rattle.palm_cli.proofs.Sections.{next_section, section_cost, section_written, section_run}
 use Rattle.palm_cli.proofs.run.run_sections.Goals as goal
 
 pub returns-in_err-run_section-clause-front : goal.returns-in_err-run_section-clause-front
@@ -59,6 +60,7 @@ loop-end-preserved g c =
       written = (old.0 ++ section_text dump at section, Appends-trans _ _ _ old.0 (section_text dump at section) old.1 c.in_ok-run_section.ensures.text, section_written dump at next section left old.0 _ came whole);
       after = section_run at next _ section left came (ap (after_sections at) (sym opened) ∙ c.loop-end.invariant.after);
       lawful = c.run_section.ensures.lawful;
+      ticks = omega (arith, ap (sections_cost at.tree) opened, section_cost at next section left came, c.in_ok-run_section.ensures.ticks, c.loop-end.invariant.ticks);
       place = omega (arith, c.loop-end.invariant.place, c.split_at.ensures.front_len, c.split_at.ensures.back_len);
       within = omega (arith, fewer, sum_by-cons (λ (end : SectionEnd). end.calls) first (drop (i + 1) ends), c.loop-end.invariant.within, c.split_at.ensures.back_len);
       faults = c.in_ok-run_section.ensures.kept ∙ c.loop-end.invariant.faults;
@@ -91,3 +93,14 @@ returns-clause-front g c =
     let none : drop i ends ≡ [] = drop_all i ends (omega (arith, c.loop-end-test.false)) in
     let whole = ap (λ (l : List SectionEnd). old.0 ++ sections_text dump at (sections_by most rest l)) (sym none) ∙ old.2 in
     on_err_weaker c.run_section-2.result (λ took. front_more _ _ _ old.0 last [] _ old.1 took whole) c.run_section-2.ensures.front
+
+pub returns-clause-ticks : goal.returns-clause-ticks
+returns-clause-ticks g c =
+    let most = c.args.settings.now.batch in
+    let rest = c.loop-end.rest.now in
+    let ends = c.args.ends.now in
+    let i = c.loop-end.end-index in
+    let now = tree_in c.loop-end.engine.tree in
+    let none : drop i ends ≡ [] = drop_all i ends (omega (arith, c.loop-end-test.false)) in
+    let last = ap (λ (l : List SectionEnd). sections_cost now (sections_by most rest l)) none in
+    on_ok_weaker c.run_section-2.result (λ ticks. omega (arith, last, ticks, c.loop-end.invariant.ticks)) c.run_section-2.ensures.ticks
