@@ -1,0 +1,7 @@
+pub mod Examples
+pub mod Fields
+pub mod Numerals
+pub mod ReadsBack
+pub mod Records
+pub mod Said
+pub mod Written

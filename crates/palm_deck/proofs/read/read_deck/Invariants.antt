@@ -1,0 +1,12 @@
+use Rattle.std.proofs.Common.{◌≡◌, ◌<◌, ℕ, List, Some}
+use Rattle.csv.specs.Reading.{Reached, Ready, default_config, source_of, strip_bom}
+use Rattle.csv.specs.declared.parser.State.TheVariants as st
+use Rattle.csv.specs.declared.reader.Trim.TheVariants as trim
+use Rattle.palm_deck.specs.Deck.{Record, without_mark}
+use Rattle.palm_deck.proofs.Said.{Held}
+use Rattle.palm_deck.proofs.read.read_deck.Given as goal
+
+abbrev pub invariant-loop-line : goal.invariant-loop-line
+invariant-loop-line l = (l.line-iterator.rdr.trim ≡ trim.None) × Ready l.line-iterator.rdr × (0 < l.line-iterator.left) × (l.line-iterator.rdr.config ≡ default_config)
+    × (y : List ℕ) × (source_of (λ s. Some s.now) l.line-iterator.rdr ≡ Some y)
+    × (rows : List Record) × Reached default_config st.StartRecord (strip_bom (without_mark l.fn.bytes)) rows l.line-iterator.rdr.state y × Held l.headed rows l.entries.items
