@@ -34,25 +34,25 @@ next_place : (n : ℕ) (x : Record) (xs : List Record) → n + length (x ∷ xs)
 next_place n x xs = omega arith
 
 -- one more record behind them, that says an edit
-calls_more : (n : ℕ) (rows : List Record) (line : Record) (calls : List Call) (call : Call) → calls_from n rows ≡ Ok calls
-    → call_at (n + length rows) line ≡ Ok call → calls_from n (rows ++ line ∷ []) ≡ Ok (calls ++ call ∷ [])
-calls_more n [] line calls call all one =
+calls_more : (n : ℕ) (rows : List Record) (fields : Record) (calls : List Call) (call : Call) → calls_from n rows ≡ Ok calls
+    → call_at (n + length rows) fields ≡ Ok call → calls_from n (rows ++ fields ∷ []) ≡ Ok (calls ++ call ∷ [])
+calls_more n [] fields calls call all one =
     let here : n + length {A = Record} [] ≡ n = omega arith in
-    ap (λ o. before o (Ok [])) (ap (λ k. call_at k line) (sym here) ∙ one) ∙ ap (λ (l : List Call). Ok (l ++ call ∷ [])) (none_of calls all)
-calls_more n (x ∷ xs) line calls call all one =
+    ap (λ o. before o (Ok [])) (ap (λ k. call_at k fields) (sym here) ∙ one) ∙ ap (λ (l : List Call). Ok (l ++ call ∷ [])) (none_of calls all)
+calls_more n (x ∷ xs) fields calls call all one =
     let s = splits (call_at n x) (calls_from (n + 1) xs) calls all in
-    let rest = calls_more (n + 1) xs line s.1 call s.3 (ap (λ k. call_at k line) (sym (next_place n x xs)) ∙ one) in
+    let rest = calls_more (n + 1) xs fields s.1 call s.3 (ap (λ k. call_at k fields) (sym (next_place n x xs)) ∙ one) in
     ap₂ before s.2 rest ∙ ap (λ (l : List Call). Ok (l ++ call ∷ [])) s.4
 
 -- one that has a fault, whatever stands behind it
-calls_fault : (n : ℕ) (rows : List Record) (line : Record) (more : List Record) (calls : List Call) (fault : DeckFault) → calls_from n rows ≡ Ok calls
-    → call_at (n + length rows) line ≡ Err fault → calls_from n (rows ++ line ∷ more) ≡ Err fault
-calls_fault n [] line more calls fault all one =
+calls_fault : (n : ℕ) (rows : List Record) (fields : Record) (more : List Record) (calls : List Call) (fault : DeckFault) → calls_from n rows ≡ Ok calls
+    → call_at (n + length rows) fields ≡ Err fault → calls_from n (rows ++ fields ∷ more) ≡ Err fault
+calls_fault n [] fields more calls fault all one =
     let here : n + length {A = Record} [] ≡ n = omega arith in
-    ap (λ o. before o (calls_from (n + 1) more)) (ap (λ k. call_at k line) (sym here) ∙ one)
-calls_fault n (x ∷ xs) line more calls fault all one =
+    ap (λ o. before o (calls_from (n + 1) more)) (ap (λ k. call_at k fields) (sym here) ∙ one)
+calls_fault n (x ∷ xs) fields more calls fault all one =
     let s = splits (call_at n x) (calls_from (n + 1) xs) calls all in
-    ap₂ before s.2 (calls_fault (n + 1) xs line more s.1 fault s.3 (ap (λ k. call_at k line) (sym (next_place n x xs)) ∙ one))
+    ap₂ before s.2 (calls_fault (n + 1) xs fields more s.1 fault s.3 (ap (λ k. call_at k fields) (sym (next_place n x xs)) ∙ one))
 
 -- ---- edits as entries
 
@@ -83,23 +83,23 @@ count_is entries calls e = ap length e ∙ length-numbered 0 calls
 pub held_none : Held false [] []
 held_none = ([], (refl, refl), refl)
 
-pub held_header : (rows : List Record) (entries : List Entry) (line : Record) → Held false rows entries → is_header line ≡ true → Held true (rows ++ line ∷ []) entries
-held_header rows entries line (calls, said, is) header =
-    (calls, (line, [], ap (λ (l : List Record). l ++ line ∷ []) said.0, header, ap (λ (l : List Call). Ok l) (sym said.1), sym (ap length said.1)), is)
+pub held_header : (rows : List Record) (entries : List Entry) (fields : Record) → Held false rows entries → is_header fields ≡ true → Held true (rows ++ fields ∷ []) entries
+held_header rows entries fields (calls, said, is) header =
+    (calls, (fields, [], ap (λ (l : List Record). l ++ fields ∷ []) said.0, header, ap (λ (l : List Call). Ok l) (sym said.1), sym (ap length said.1)), is)
 
-pub held_more : (rows : List Record) (entries more : List Entry) (line : Record) → Held true rows entries → IsNext line entries more → Held true (rows ++ line ∷ []) more
-held_more rows entries more line (calls, (header, rest, rows-are, is, said, size), entries-are) (call, one, more-are) =
+pub held_more : (rows : List Record) (entries more : List Entry) (fields : Record) → Held true rows entries → IsNext fields entries more → Held true (rows ++ fields ∷ []) more
+held_more rows entries more fields (calls, (header, rest, rows-are, is, said, size), entries-are) (call, one, more-are) =
     let count : length entries ≡ length calls = count_is entries calls entries-are in
     let place : length entries + 2 ≡ 2 + length rest = omega (arith, size, count) in
     let from_none : length entries ≡ 0 + length calls = omega (arith, count) in (
       calls ++ call ∷ [],
       (
         header,
-        rest ++ line ∷ [],
-        ap (λ (l : List Record). l ++ line ∷ []) rows-are,
+        rest ++ fields ∷ [],
+        ap (λ (l : List Record). l ++ fields ∷ []) rows-are,
         is,
-        calls_more 2 rest line calls call said (ap (λ k. call_at k line) (sym place) ∙ one),
-        length-append rest (line ∷ []) ∙ ap (λ k. k + 1) size ∙ sym (length-append calls (call ∷ [])),
+        calls_more 2 rest fields calls call said (ap (λ k. call_at k fields) (sym place) ∙ one),
+        length-append rest (fields ∷ []) ∙ ap (λ k. k + 1) size ∙ sym (length-append calls (call ∷ [])),
       ),
       more-are ∙ ap₂ (λ (l : List Entry) (n : ℕ). l ++ entry_at n call ∷ []) entries-are from_none ∙ sym (numbered_more 0 calls call),
     )
@@ -114,17 +114,17 @@ nothing_said rows entries (calls, said, is) = ap (λ (l : List Record). placed (
 
 -- ---- the first fault, whatever stands behind it
 
-pub header_fault : (rows : List Record) (entries : List Entry) (line : Record) (more : List Record) → Held false rows entries → is_header line ≡ false
-    → placed (calls_in ((rows ++ line ∷ []) ++ more)) ≡ Err (Bad 1 Header)
-header_fault rows entries line more (calls, said, entries-are) is =
-    ap (λ (l : List Record). placed (calls_in ((l ++ line ∷ []) ++ more))) said.0 ∙ ap (λ b. placed (cond b (calls_from 2 more) (Err (Bad 1 Header)))) is
+pub header_fault : (rows : List Record) (entries : List Entry) (fields : Record) (more : List Record) → Held false rows entries → is_header fields ≡ false
+    → placed (calls_in ((rows ++ fields ∷ []) ++ more)) ≡ Err (Bad 1 Header)
+header_fault rows entries fields more (calls, said, entries-are) is =
+    ap (λ (l : List Record). placed (calls_in ((l ++ fields ∷ []) ++ more))) said.0 ∙ ap (λ b. placed (cond b (calls_from 2 more) (Err (Bad 1 Header)))) is
 
-pub edit_fault : (rows : List Record) (entries : List Entry) (line : Record) (more : List Record) (fault : DeckFault) → Held true rows entries
-    → call_at (length entries + 2) line ≡ Err fault → placed (calls_in ((rows ++ line ∷ []) ++ more)) ≡ Err fault
-edit_fault rows entries line more fault (calls, (header, rest, rows-are, is, said, size), entries-are) one =
+pub edit_fault : (rows : List Record) (entries : List Entry) (fields : Record) (more : List Record) (fault : DeckFault) → Held true rows entries
+    → call_at (length entries + 2) fields ≡ Err fault → placed (calls_in ((rows ++ fields ∷ []) ++ more)) ≡ Err fault
+edit_fault rows entries fields more fault (calls, (header, rest, rows-are, is, said, size), entries-are) one =
     let count : length entries ≡ length calls = count_is entries calls entries-are in
     let place : length entries + 2 ≡ 2 + length rest = omega (arith, size, count) in
-    ap (λ (l : List Record). placed (calls_in ((l ++ line ∷ []) ++ more))) rows-are
-    ∙ ap (λ b. placed (cond b (calls_from 2 ((rest ++ line ∷ []) ++ more)) (Err (Bad 1 Header)))) is
-    ∙ ap (λ (l : List Record). placed (calls_from 2 l)) (append_assoc rest (line ∷ []) more)
-    ∙ ap placed (calls_fault 2 rest line more calls fault said (ap (λ k. call_at k line) (sym place) ∙ one))
+    ap (λ (l : List Record). placed (calls_in ((l ++ fields ∷ []) ++ more))) rows-are
+    ∙ ap (λ b. placed (cond b (calls_from 2 ((rest ++ fields ∷ []) ++ more)) (Err (Bad 1 Header)))) is
+    ∙ ap (λ (l : List Record). placed (calls_from 2 l)) (append_assoc rest (fields ∷ []) more)
+    ∙ ap placed (calls_fault 2 rest fields more calls fault said (ap (λ k. call_at k fields) (sym place) ∙ one))

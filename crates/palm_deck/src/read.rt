@@ -29,20 +29,20 @@ fn without_mark(bytes: &[u8]) -> &[u8]
 
 // The fields of a record that has three.
 #[tactic(auto, using(crate::proofs::Fields::no_field, crate::proofs::Fields::three))]
-fn three_fields(line: &ByteRecord) -> Option<(&[u8], &[u8], &[u8])>
-    ensures { MatchOption result (length (fields_of line.now) ≢ 3) (λ x. fields_of line.now ≡ x.0.now ∷ x.1.now ∷ x.2.now ∷ []) }
+fn three_fields(fields: &ByteRecord) -> Option<(&[u8], &[u8], &[u8])>
+    ensures { MatchOption result (length (fields_of fields.now) ≢ 3) (λ x. fields_of fields.now ≡ x.0.now ∷ x.1.now ∷ x.2.now ∷ []) }
 {
-    if line.len() != 3 {
+    if fields.len() != 3 {
         return None;
     }
-    Some((line.get(0)?, line.get(1)?, line.get(2)?))
+    Some((fields.get(0)?, fields.get(1)?, fields.get(2)?))
 }
 
 #[tactic(auto, using(crate::proofs::Fields::no_header))]
-fn is_header(line: &ByteRecord) -> bool
-    ensures { result ≡ says_header (fields_of line.now) }
+fn is_header(fields: &ByteRecord) -> bool
+    ensures { result ≡ says_header (fields_of fields.now) }
 {
-    match three_fields(line) {
+    match three_fields(fields) {
         Some((op, prefix, rate)) => {
             op == b"op".as_slice() && prefix == b"prefix".as_slice() && rate == b"rate".as_slice()
         }
@@ -94,31 +94,31 @@ fn read_three(op: &[u8], prefix: &[u8], rate: &[u8]) -> Result<Call, DeckWhy>
 
 // The edit of a record behind the header.
 #[tactic(auto, using(crate::proofs::Fields::other_fields))]
-fn read_fields(line: &ByteRecord) -> Result<Call, DeckWhy>
-    ensures { result ≡ call_by (fields_of line.now) }
+fn read_fields(fields: &ByteRecord) -> Result<Call, DeckWhy>
+    ensures { result ≡ call_by (fields_of fields.now) }
 {
-    match three_fields(line) {
+    match three_fields(fields) {
         Some((op, prefix, rate)) => read_three(op, prefix, rate),
         None => Err(DeckWhy::Fields),
     }
 }
 
-fn read_call(row: u64, line: &ByteRecord) -> Result<Call, DeckFault>
-    ensures { result ≡ call_at row (fields_of line.now) }
+fn read_call(row: u64, fields: &ByteRecord) -> Result<Call, DeckFault>
+    ensures { result ≡ call_at row (fields_of fields.now) }
 {
-    match read_fields(line) {
+    match read_fields(fields) {
         Ok(call) => Ok(call),
         Err(why) => Err(DeckFault::Bad { row, why }),
     }
 }
 
 // Adds the edit of a record to those of the records before it. The header is record 1, and the first edit's record 2.
-fn add_edit(entries: &mut Vec<Entry>, line: &ByteRecord) -> Result<(), DeckFault>
-    ensures ok { OnOk result (IsNext (fields_of line.now) entries.old.items entries.new.items) }
-    ensures err { IfErr result (λ fault. fault ≢ DeckFault.NoMemory → call_at (length entries.old.items + 2) (fields_of line.now) ≡ Err fault) }
+fn add_edit(entries: &mut Vec<Entry>, fields: &ByteRecord) -> Result<(), DeckFault>
+    ensures ok { OnOk result (IsNext (fields_of fields.now) entries.old.items entries.new.items) }
+    ensures err { IfErr result (λ fault. fault ≢ DeckFault.NoMemory → call_at (length entries.old.items + 2) (fields_of fields.now) ≡ Err fault) }
 {
     let place = entries.len() as u64;
-    let call = read_call(place + 2, line)?;
+    let call = read_call(place + 2, fields)?;
     entries.push(Entry {
         caller: 0,
         place,
@@ -140,14 +140,14 @@ pub fn read_deck(alloc: Global, bytes: &[u8]) -> Result<Deck, DeckFault>
         .from_reader(alloc, without_mark(bytes));
     let mut entries = Vec::new(alloc);
     let mut headed = false;
-    for line in reader.into_byte_records() {
-        let Ok(line) = line else {
+    for fields in reader.into_byte_records() {
+        let Ok(fields) = fields else {
             return Err(DeckFault::NoMemory);
         };
         if headed {
-            add_edit(&mut entries, &line)?;
+            add_edit(&mut entries, &fields)?;
         } else {
-            if !is_header(&line) {
+            if !is_header(&fields) {
                 return Err(NO_HEADER);
             }
             headed = true;

@@ -6,7 +6,7 @@ use Rattle.palm_deck.specs.Deck.{Record, without_mark}
 use Rattle.palm_deck.proofs.Said.{Held}
 use Rattle.palm_deck.proofs.read.read_deck.Given as goal
 
-abbrev pub invariant-loop-line : goal.invariant-loop-line
-invariant-loop-line l = (l.line-iterator.rdr.trim ≡ trim.None) × Ready l.line-iterator.rdr × (0 < l.line-iterator.left) × (l.line-iterator.rdr.config ≡ default_config)
-    × (y : List ℕ) × (source_of (λ s. Some s.now) l.line-iterator.rdr ≡ Some y)
-    × (rows : List Record) × Reached default_config st.StartRecord (strip_bom (without_mark l.fn.bytes)) rows l.line-iterator.rdr.state y × Held l.headed rows l.entries.items
+abbrev pub invariant-loop-fields : goal.invariant-loop-fields
+invariant-loop-fields l = (l.fields-iterator.rdr.trim ≡ trim.None) × Ready l.fields-iterator.rdr × (0 < l.fields-iterator.left) × (l.fields-iterator.rdr.config ≡ default_config)
+    × (y : List ℕ) × (source_of (λ s. Some s.now) l.fields-iterator.rdr ≡ Some y)
+    × (rows : List Record) × Reached default_config st.StartRecord (strip_bom (without_mark l.fn.bytes)) rows l.fields-iterator.rdr.state y × Held l.headed rows l.entries.items
