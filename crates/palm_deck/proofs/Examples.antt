@@ -32,6 +32,11 @@ blank_line : deck_of (codes "op,prefix,rate\n\nset,4\n") ≡ Err (Bad 2 Fields)
 unfolding csv_on_literals
 blank_line = refl
 
+-- CR alone ends a line too, and quotes keep what stands between them
+quoted : deck_of (codes "op,prefix,rate\rset,\"4,4\",7\rset,44,7") ≡ Err (Bad 2 Prefix)
+unfolding csv_on_literals
+quoted = refl
+
 no_record : deck_of [] ≡ Err (Bad 1 Header)
 unfolding csv_on_literals
 no_record = refl

@@ -104,27 +104,28 @@ held_more rows entries more fields (calls, (header, rest, rows-are, is, said, si
       more-are ∙ ap₂ (λ (l : List Entry) (n : ℕ). l ++ entry_at n call ∷ []) entries-are from_none ∙ sym (numbered_more 0 calls call),
     )
 
-pub all_said : (rows : List Record) (entries : List Entry) → Held true rows entries → placed (calls_in rows) ≡ Ok entries
-all_said rows entries (calls, (header, rest, rows-are, is, said, size), entries-are) =
-    ap (λ (l : List Record). placed (calls_in l)) rows-are ∙ ap (λ b. placed (cond b (calls_from 2 rest) (Err (Bad 1 Header)))) is
+pub all_said : (all rows : List Record) (entries : List Entry) → all ≡ rows → Held true rows entries → placed (calls_in all) ≡ Ok entries
+all_said all rows entries e (calls, (header, rest, rows-are, is, said, size), entries-are) =
+    ap (λ (l : List Record). placed (calls_in l)) (e ∙ rows-are) ∙ ap (λ b. placed (cond b (calls_from 2 rest) (Err (Bad 1 Header)))) is
     ∙ ap placed said ∙ ap (λ (l : List Entry). Ok l) (sym entries-are)
 
-pub nothing_said : (rows : List Record) (entries : List Entry) → Held false rows entries → placed (calls_in rows) ≡ Err (Bad 1 Header)
-nothing_said rows entries (calls, said, is) = ap (λ (l : List Record). placed (calls_in l)) said.0
+pub nothing_said : (all rows : List Record) (entries : List Entry) → all ≡ rows → Held false rows entries → placed (calls_in all) ≡ Err (Bad 1 Header)
+nothing_said all rows entries e (calls, said, is) = ap (λ (l : List Record). placed (calls_in l)) (e ∙ said.0)
 
 -- ---- the first fault, whatever stands behind it
 
-pub header_fault : (rows : List Record) (entries : List Entry) (fields : Record) (more : List Record) → Held false rows entries → is_header fields ≡ false
-    → placed (calls_in ((rows ++ fields ∷ []) ++ more)) ≡ Err (Bad 1 Header)
-header_fault rows entries fields more (calls, said, entries-are) is =
-    ap (λ (l : List Record). placed (calls_in ((l ++ fields ∷ []) ++ more))) said.0 ∙ ap (λ b. placed (cond b (calls_from 2 more) (Err (Bad 1 Header)))) is
+pub header_fault : (all rows : List Record) (entries : List Entry) (fields : Record) (more : List Record) → all ≡ (rows ++ fields ∷ []) ++ more
+    → Held false rows entries → is_header fields ≡ false → placed (calls_in all) ≡ Err (Bad 1 Header)
+header_fault all rows entries fields more e (calls, said, entries-are) is =
+    ap (λ (l : List Record). placed (calls_in l)) (e ∙ ap (λ (l : List Record). (l ++ fields ∷ []) ++ more) said.0)
+    ∙ ap (λ b. placed (cond b (calls_from 2 more) (Err (Bad 1 Header)))) is
 
-pub edit_fault : (rows : List Record) (entries : List Entry) (fields : Record) (more : List Record) (fault : DeckFault) → Held true rows entries
-    → call_at (length entries + 2) fields ≡ Err fault → placed (calls_in ((rows ++ fields ∷ []) ++ more)) ≡ Err fault
-edit_fault rows entries fields more fault (calls, (header, rest, rows-are, is, said, size), entries-are) one =
+pub edit_fault : (all rows : List Record) (entries : List Entry) (fields : Record) (more : List Record) (fault : DeckFault) → all ≡ (rows ++ fields ∷ []) ++ more
+    → Held true rows entries → call_at (length entries + 2) fields ≡ Err fault → placed (calls_in all) ≡ Err fault
+edit_fault all rows entries fields more fault e (calls, (header, rest, rows-are, is, said, size), entries-are) one =
     let count : length entries ≡ length calls = count_is entries calls entries-are in
     let place : length entries + 2 ≡ 2 + length rest = omega (arith, size, count) in
-    ap (λ (l : List Record). placed (calls_in ((l ++ fields ∷ []) ++ more))) rows-are
+    ap (λ (l : List Record). placed (calls_in l)) (e ∙ ap (λ (l : List Record). (l ++ fields ∷ []) ++ more) rows-are)
     ∙ ap (λ b. placed (cond b (calls_from 2 ((rest ++ fields ∷ []) ++ more)) (Err (Bad 1 Header)))) is
     ∙ ap (λ (l : List Record). placed (calls_from 2 l)) (append_assoc rest (fields ∷ []) more)
     ∙ ap placed (calls_fault 2 rest fields more calls fault said (ap (λ k. call_at k fields) (sym place) ∙ one))

@@ -49,7 +49,7 @@ is_header _ = false
 abbrev pub is_prefix : List ℕ → Bool
 is_prefix field = is_ok (read_of field)
 
--- So "007" is a rate, and "1000000000000" isn't.
+-- A number from 0 to `MOST_RATE`. So "007" is a rate, and "1000000000000" isn't.
 abbrev pub is_rate : List ℕ → Bool
 is_rate field = is_from_to 0 MOST_RATE field
 

@@ -129,7 +129,7 @@ fn add_edit(entries: &mut Vec<Entry>, fields: &ByteRecord) -> Result<(), DeckFau
 
 /// The deck that bytes hold, or its first fault, exactly as `deck_of` says.
 ///
-/// Besides that there is only `NoMemory`, which leaves nothing behind.
+/// Beside these there is only `NoMemory`, which leaves nothing behind.
 pub fn read_deck(alloc: Global, bytes: &[u8]) -> Result<Deck, DeckFault>
     ensures ok { IfOk result (λ deck. deck_of bytes.now ≡ Ok deck) }
     ensures err { IfErr result (λ fault. fault ≢ DeckFault.NoMemory → deck_of bytes.now ≡ Err fault) }

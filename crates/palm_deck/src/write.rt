@@ -30,6 +30,8 @@ fn spell_rate(rate: &Amount, out: &mut Vec<u8>) -> Result<(), NoMemory>
 }
 
 /// The deck of a table's rows: `deck_text` of them, a Set for each in their order.
+///
+/// Beside `NoMemory`, which leaves nothing behind, there is no error.
 pub fn write_deck(alloc: Global, rows: &RowList) -> Result<Vec<u8>, NoMemory>
     ensures { IfOk result (λ text. text.items ≡ deck_text rows.now) }
 {

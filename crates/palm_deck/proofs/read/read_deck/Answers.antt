@@ -4,7 +4,7 @@ use Rattle.csv.specs.Reading.{Reached, default_config, strip_bom}
 use Rattle.csv.specs.Records.{fields_of}
 use Rattle.csv.specs.declared.parser.State.TheVariants as st
 use Rattle.csv.proofs.ReadFacts.{rows-end, rows-more}
-use Rattle.palm_deck.specs.Deck.{without_mark, deck_of, call_at, calls_in, is_header, placed}
+use Rattle.palm_deck.specs.Deck.{without_mark, deck_of, call_at, is_header, records_of}
 use Rattle.palm_deck.specs.declared.deck.DeckFault.TheVariants.{NoMemory}
 use Rattle.palm_deck.proofs.Records.{all_records, front_records}
 use Rattle.palm_deck.proofs.Said.{Held, held_none, held_header, held_more, all_said, nothing_said, header_fault, edit_fault}
@@ -45,7 +45,7 @@ returns-in_err-add_edit-clause-err c =
     let held : Held true inv.6 c.loop-fields.entries.items = subst (λ (b : Bool). Held b inv.6 c.loop-fields.entries.items) c.if-headed.true inv.8 in
     let fault : c.in_err-add_edit.field-0.0 ≢ NoMemory → call_at (length c.loop-fields.entries.items + 2) (fields_of c.in-Ok.fields) ≡ Err c.in_err-add_edit.field-0.0 = c.in_err-add_edit.ensures.err in
     passed_up c.from_residual.result c.in_err-add_edit.field-0.0 (λ f. f ≢ NoMemory → deck_of c.args.bytes.now ≡ Err f) c.from_residual.ensures.1
-    (λ known. ap (λ l. placed (calls_in l)) front.1 ∙ edit_fault inv.6 c.loop-fields.entries.items (fields_of c.in-Ok.fields) front.0 _ held (fault known))
+    (λ known. edit_fault (records_of c.args.bytes.now) inv.6 c.loop-fields.entries.items (fields_of c.in-Ok.fields) front.0 _ front.1 held (fault known))
 
 pub returns-then-not-is_header-clause-err : goal.returns-then-not-is_header-clause-err
 returns-then-not-is_header-clause-err c _ =
@@ -55,7 +55,7 @@ returns-then-not-is_header-clause-err c _ =
     let front = front_records default_config (strip_bom (without_mark c.args.bytes.now)) _ _ _ more.2 in
     let held : Held false inv.6 c.loop-fields.entries.items = subst (λ (b : Bool). Held b inv.6 c.loop-fields.entries.items) c.if-headed.false inv.8 in
     let other : is_header (fields_of c.in-Ok.fields) ≡ false = search rules in
-    ap (λ l. placed (calls_in l)) front.1 ∙ header_fault inv.6 c.loop-fields.entries.items (fields_of c.in-Ok.fields) front.0 held other
+    header_fault (records_of c.args.bytes.now) inv.6 c.loop-fields.entries.items (fields_of c.in-Ok.fields) front.0 front.1 held other
 
 pub loop-fields-preserved : goal.loop-fields-preserved
 loop-fields-preserved c =
@@ -75,7 +75,7 @@ returns-then-headed-2-clause-ok c =
     let all = all_records default_config (strip_bom (without_mark c.args.bytes.now)) inv.6 c.loop-fields.fields-iterator.rdr.state inv.4 inv.7
     (rows-end (λ (s : Bor (List ℕ)). Some s.now) c.loop-fields.fields-iterator.rdr c.next.new.self.rdr [] default_config inv.4 inv.3 inv.5 step) in
     let held : Held true inv.6 c.loop-fields.entries.items = subst (λ (b : Bool). Held b inv.6 c.loop-fields.entries.items) c.if-headed-2.true inv.8 in
-    rw c.from_vec.ensures (ap (λ l. placed (calls_in l)) all ∙ all_said inv.6 c.loop-fields.entries.items held)
+    rw c.from_vec.ensures (all_said (records_of c.args.bytes.now) inv.6 c.loop-fields.entries.items all held)
 
 pub returns-else-headed-2-clause-err : goal.returns-else-headed-2-clause-err
 returns-else-headed-2-clause-err c _ =
@@ -84,4 +84,4 @@ returns-else-headed-2-clause-err c _ =
     let all = all_records default_config (strip_bom (without_mark c.args.bytes.now)) inv.6 c.loop-fields.fields-iterator.rdr.state inv.4 inv.7
     (rows-end (λ (s : Bor (List ℕ)). Some s.now) c.loop-fields.fields-iterator.rdr c.next.new.self.rdr [] default_config inv.4 inv.3 inv.5 step) in
     let held : Held false inv.6 c.loop-fields.entries.items = subst (λ (b : Bool). Held b inv.6 c.loop-fields.entries.items) c.if-headed-2.false inv.8 in
-    ap (λ l. placed (calls_in l)) all ∙ nothing_said inv.6 c.loop-fields.entries.items held
+    nothing_said (records_of c.args.bytes.now) inv.6 c.loop-fields.entries.items all held
