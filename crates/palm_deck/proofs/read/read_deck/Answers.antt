@@ -41,7 +41,7 @@ returns-in_err-add_edit-clause-err c =
     let inv = c.loop-fields.invariant in
     let step = rw (c.in-Some.is, c.in-Ok.is) at ((c.next.ensures.steps inv.2 inv.0).0 inv.1) in
     let more = rows-more (λ (s : Bor (List ℕ)). Some s.now) c.loop-fields.fields-iterator.rdr c.next.new.self.rdr (fields_of c.in-Ok.fields) default_config st.StartRecord (strip_bom (without_mark c.args.bytes.now)) inv.4 inv.6 inv.3 inv.5 inv.7 step.0 in
-    let front = front_records default_config (strip_bom (without_mark c.args.bytes.now)) _ _ _ more.2 in
+    let front = front_records default_config (strip_bom (without_mark c.args.bytes.now)) (inv.6 ++ fields_of c.in-Ok.fields ∷ []) c.next.new.self.rdr.state more.0 more.2 in
     let held : Held true inv.6 c.loop-fields.entries.items = subst (λ (b : Bool). Held b inv.6 c.loop-fields.entries.items) c.if-headed.true inv.8 in
     let fault : c.in_err-add_edit.field-0.0 ≢ NoMemory → call_at (length c.loop-fields.entries.items + 2) (fields_of c.in-Ok.fields) ≡ Err c.in_err-add_edit.field-0.0 = c.in_err-add_edit.ensures.err in
     passed_up c.from_residual.result c.in_err-add_edit.field-0.0 (λ f. f ≢ NoMemory → deck_of c.args.bytes.now ≡ Err f) c.from_residual.ensures.1
@@ -52,7 +52,7 @@ returns-then-not-is_header-clause-err c _ =
     let inv = c.loop-fields.invariant in
     let step = rw (c.in-Some.is, c.in-Ok.is) at ((c.next.ensures.steps inv.2 inv.0).0 inv.1) in
     let more = rows-more (λ (s : Bor (List ℕ)). Some s.now) c.loop-fields.fields-iterator.rdr c.next.new.self.rdr (fields_of c.in-Ok.fields) default_config st.StartRecord (strip_bom (without_mark c.args.bytes.now)) inv.4 inv.6 inv.3 inv.5 inv.7 step.0 in
-    let front = front_records default_config (strip_bom (without_mark c.args.bytes.now)) _ _ _ more.2 in
+    let front = front_records default_config (strip_bom (without_mark c.args.bytes.now)) (inv.6 ++ fields_of c.in-Ok.fields ∷ []) c.next.new.self.rdr.state more.0 more.2 in
     let held : Held false inv.6 c.loop-fields.entries.items = subst (λ (b : Bool). Held b inv.6 c.loop-fields.entries.items) c.if-headed.false inv.8 in
     let other : is_header (fields_of c.in-Ok.fields) ≡ false = search rules in
     header_fault (records_of c.args.bytes.now) inv.6 c.loop-fields.entries.items (fields_of c.in-Ok.fields) front.0 front.1 held other
