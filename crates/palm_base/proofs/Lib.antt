@@ -37,7 +37,6 @@ pub mod Sets
 pub mod SoundNodes
 pub mod TableSplits
 pub mod Tables
-pub mod Takes
 pub mod Tops
 pub mod TreeExamples
 pub mod Builds

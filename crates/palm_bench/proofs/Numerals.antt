@@ -4,8 +4,8 @@ use Rattle.std.specs.Prelude.{Ok, All}
 use Rattle.std.specs.List.{AllByRecursion, position_or_len, prefix_len}
 use Rattle.std.proofs.lemmas.Bool.{le-ltb}
 use Rattle.std.proofs.lemmas.List.Elements.{recursion_from_All}
+use Rattle.std.proofs.lemmas.List.{take_all}
 use Rattle.palm_base.specs.Prefix.{digits_in, is_no_digit, read_of}
-use Rattle.palm_base.proofs.Takes.{take_all}
 
 none_found : (text : List ℕ) → AllByRecursion (λ b. is_no_digit b ≡ false) text → prefix_len (λ b. not (is_no_digit b)) text ≡ length text
 none_found [] all = refl

@@ -2,8 +2,7 @@
 use Rattle.std.proofs.Common.{◌≡◌, ℕ, ◌≤◌, Bool, true, false, cond, inl, inr, List, [], ◌++◌, length, take, Option, Some, None, refl, sym, ap, subst, ◌∙◌, arith}
 use Rattle.std.specs.Prelude.{◌&&◌, is_none, is_some}
 use Rattle.std.specs.Io.KnownBytes.{Appends, Consumes}
-use Rattle.std.proofs.lemmas.List.{take-append-le}
-use Rattle.palm_base.proofs.Takes.{take_all}
+use Rattle.std.proofs.lemmas.List.{take-append-le, take_all}
 use Rattle.palm_script.specs.Input.{IsRead, is_whole}
 use Rattle.palm_script.specs.Script.{Outcome, script_of}
 use Rattle.palm_script.specs.Transcript.{Section}

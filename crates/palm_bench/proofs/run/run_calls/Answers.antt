@@ -1,9 +1,9 @@
 use Rattle.std.proofs.Common.{◌≡◌, ℕ, ◌-◌, ◌≤◌, length, take, min, ap, subst, ◌∙◌, arith}
 use Rattle.std.specs.List.{AllByRecursion}
+use Rattle.std.proofs.lemmas.List.{take_all}
 use Rattle.palm_base.specs.History.{replies_to, table_after}
 use Rattle.palm_base.specs.Tree.{rows_of}
 use Rattle.palm_base.specs.declared.call.Entry.{Entry}
-use Rattle.palm_base.proofs.Takes.{take_all}
 use Rattle.palm_tree.specs.TreeValue.{tree_in}
 use Rattle.palm_bench.specs.Kinds.{IsOfKind}
 use Rattle.palm_bench.specs.Runs.{with_replies}
