@@ -63,16 +63,6 @@ fronts_past (suc n) number row rows a b few not =
         let begun : begins row.prefix number ≡ true = (begins-take row.prefix number).1 (rw long front) in
         cc
 
--- Shorter fronts than the row's prefix pass it by.
-fronts_shorter : (n : ℕ) (number : List ℕ) (row : Row) (rows : List Row) → IsPrefix number → IsPrefix row.prefix → n ≤ length number
-    → n < length row.prefix → first_front n number (row ∷ rows) ≡ first_front n number rows
-fronts_shorter zero number row rows a b few short = refl
-fronts_shorter (suc n) number row rows a b few short =
-    rw (
-      rate_past (key (take (suc n) number)) row rows (length_apart n number row a b few (λ long. omega arith)),
-      fronts_shorter n number row rows a b (omega arith) (omega arith),
-    ) refl
-
 -- Of a row that begins the number and what the others' fronts find, the longer is found.
 fronts_longer : (n : ℕ) (number : List ℕ) (row : Row) (rows : List Row) → IsPrefix number → IsPrefix row.prefix → n ≤ length number
     → row.prefix ≡ take (length row.prefix) number → length row.prefix ≤ n

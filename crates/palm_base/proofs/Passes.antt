@@ -1,5 +1,5 @@
 -- One pass below the root: what becomes of children in order holds what the edits leave of their rows.
-use Rattle.std.proofs.Common.{◌≡◌, ℕ, zero, suc, ◌<◌, ◌≤◌, List, [], ◌∷◌, ◌++◌, length, filter, refl, ap, arith, ◌∙◌}
+use Rattle.std.proofs.Common.{◌≡◌, ℕ, zero, suc, ◌<◌, ◌≤◌, List, [], ◌∷◌, ◌++◌, length, filter, ap, arith, ◌∙◌}
 use Rattle.std.specs.List.{AllByRecursion}
 use Rattle.std.proofs.lemmas.Bool.{ltb-true, leb-true}
 use Rattle.std.proofs.lemmas.List.{length-append, append-nil}
@@ -7,13 +7,10 @@ use Rattle.palm_base.specs.Table.{row_key, after_all}
 use Rattle.palm_base.specs.Tree.{Subtree, rows_in}
 use Rattle.palm_base.specs.Pass.{Outcome, edit_key, goes_left, goes_right, rows_under, joined, below, pass}
 use Rattle.palm_base.specs.Lawful.{RowIsIn, IsIn, Rising, next_low, Sound, InOrder}
-use Rattle.palm_base.specs.declared.bounds.TheConstants.{LEAST_LEAF_ROWS, MOST_LEAF_ROWS, LEAST_CHILDREN, MOST_CHILDREN}
 use Rattle.palm_base.proofs.Every.{every_weaker, every_append, every_filter}
 use Rattle.palm_base.proofs.TableSplits.{Under, From, Adds, all_split}
-use Rattle.palm_base.proofs.Cuts.{few_are_one_piece}
-use Rattle.palm_base.proofs.CutParts.{large}
 use Rattle.palm_base.proofs.RisingRows.{rising_range, rising_all, under_range, from_range, put_all, put_all_append, put_all_left, put_all_right}
-use Rattle.palm_base.proofs.SoundNodes.{low_of, in_order_proper, in_order_join, rows_join, sound_rises, in_order_rises, node_over_same}
+use Rattle.palm_base.proofs.SoundNodes.{low_of, in_order_proper, in_order_join, rows_join, sound_rises, in_order_rises}
 use Rattle.palm_base.proofs.Outcomes.{Holds, KeepsLow, leaf_keeps_low, inner_keeps_low}
 use Rattle.palm_base.specs.declared.row.Row.{Row}
 use Rattle.palm_base.specs.declared.call.Call.{Call}
@@ -147,23 +144,3 @@ pass_holds zero l h low rows edits sound adds = leaf_keeps_low l h low (after_al
 pass_holds (suc n) l h low children edits sound adds =
     inner_keeps_low n l h low (after_all (rows_under n children) edits) (below n (pass n) children edits)
     (below_holds n (pass_holds n) l h children edits sound.2 (let sizes = sound.0 in omega arith) adds)
-
--- ---- no edits
-
--- No edits leave a node as it is.
-abbrev PassLeaves : ℕ → Type 0
-PassLeaves n = (l h low : ℕ) (node : Subtree n) → Sound n l h node → pass n low node [] ≡ record { pieces = (low, node) ∷ []; loose = [] }
-
-below_same : (n : ℕ) → PassLeaves n → (l h : ℕ) (children : List (ℕ × Subtree n)) → InOrder n l h children
-    → below n (pass n) children [] ≡ record { pieces = children; loose = [] }
-below_same n law l h [] chain = refl
-below_same n law l h (child ∷ []) chain = law l h child.0 child.1 chain.0.1
-below_same n law l h (child ∷ next ∷ children) chain = rw (law l next.0 child.0 child.1 chain.0.1, below_same n law next.0 h (next ∷ children) chain.1)
-
-pub pass_same : (n : ℕ) → PassLeaves n
-unfolding pass
-pass_same zero l h low rows sound =
-    rw (large LEAST_LEAF_ROWS rows sound.0.0, few_are_one_piece MOST_LEAF_ROWS rows (omega arith) sound.0.1)
-pass_same (suc n) l h low children sound =
-    let one = few_are_one_piece MOST_CHILDREN children (omega arith) sound.0.1 in
-    rw (below_same n (pass_same n) l h children sound.2, large LEAST_CHILDREN children sound.0.0, one, node_over_same n children sound.1)

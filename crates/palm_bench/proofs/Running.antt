@@ -18,10 +18,6 @@ with_replies-append : (sum : ℕ) (xs ys : List Reply) → with_replies sum (xs 
 with_replies-append sum [] ys = refl
 with_replies-append sum (x ∷ xs) ys = with_replies-append (with_reply sum x) xs ys
 
--- No calls leave the table and the sum.
-pub none_run : (kind : Kind) (rows : List Row) (sum : ℕ) → HasRun kind 0 rows rows sum sum
-none_run kind rows sum = record { calls = []; many = refl; kinds = tt; rows-are = refl; total-is = refl }
-
 -- A batch was run after those before.
 pub batch_run : (kind : Kind) (count more all : ℕ) (before between after : List Row) (first sum total : ℕ) (batch : List Entry) → HasRun kind count before between first sum
     → all ≡ count + more → length batch ≡ more → AllByRecursion (λ entry. IsOfKind kind entry.call) batch
