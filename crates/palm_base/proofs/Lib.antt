@@ -4,6 +4,7 @@ pub mod Chains
 pub mod CutParts
 pub mod CutSteps
 pub mod Cuts
+pub mod EmptyTree
 pub mod Every
 pub mod Examples
 pub mod FromKey

@@ -1,9 +1,7 @@
--- Runs of calls: none, and a batch more. The sum over replies goes on where it was. A run begins with a lawful tree.
+-- Runs of calls: none, and a batch more. The sum over replies goes on where it was.
 use Rattle.std.proofs.Common.{◌≡◌, ℕ, zero, ◌+◌, List, [], ◌∷◌, ◌++◌, length, refl, sym, ap, subst, ◌∙◌, arith, length-append}
 use Rattle.std.specs.List.{AllByRecursion}
 use Rattle.palm_base.specs.History.{replies_to, table_after}
-use Rattle.palm_base.specs.Lawful.{IsLawful}
-use Rattle.palm_base.specs.Tree.{Tree}
 use Rattle.palm_base.specs.declared.call.Entry.{Entry}
 use Rattle.palm_base.specs.declared.call.Reply.{Reply}
 use Rattle.palm_base.specs.declared.row.Row.{Row}
@@ -36,10 +34,6 @@ batch_run kind count more all before between after first sum total batch ran who
           ∙ ap (λ rows. with_replies (with_replies first told) (replies_to rows batch)) ran.rows-are
           ∙ sym (with_replies-append first told next) ∙ ap (with_replies first) (sym (replies_to-append before calls batch));
     }
-
--- The empty tree is lawful.
-pub empty_is_lawful : (tree : Tree) → tree ≡ (zero, []) → IsLawful tree
-empty_is_lawful tree is = subst IsLawful (sym is) (0, (omega arith, tt))
 
 -- A load is what is planned where the plan is a load.
 pub load_leaves : (kind : Kind) (count : ℕ) (first rows : List Row) (sum : ℕ) → kind ≡ Load → first ≡ [] → HasRun Load count first rows 0 sum → Leaves kind count rows sum

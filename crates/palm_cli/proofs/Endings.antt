@@ -3,7 +3,6 @@ use Rattle.std.proofs.Common.{◌≡◌, ℕ, zero, ◌+◌, ◌≤◌, Bool, tr
 use Rattle.std.specs.Io.KnownBytes.{Appends}
 use Rattle.std.proofs.KnownBytes.{Appends-trans}
 use Rattle.std.proofs.lemmas.List.{append-nil}
-use Rattle.palm_base.specs.Lawful.{IsLawful}
 use Rattle.palm_base.specs.Tree.{Tree}
 use Rattle.palm_script.specs.Transcript.{Progress, Section, begin, come_to, after_run, after_sections, sections_text, text_of, final_of, ending, sections_by}
 use Rattle.palm_script.specs.Script.{Outcome, Says, entries_from}
@@ -15,10 +14,6 @@ use Rattle.palm_script.specs.declared.dump.DumpWhen.{DumpWhen}
 use Rattle.palm_cli.specs.Costs.{sections_cost, run_cost}
 use Rattle.palm_cli.specs.Streams.{AppendsFront, text_to}
 use Rattle.palm_cli.proofs.Fronts.{front_longer, front_more}
-
--- The empty tree is lawful.
-pub empty_is_lawful : (tree : Tree) → tree ≡ (zero, []) → IsLawful tree
-empty_is_lawful tree is = subst IsLawful (sym is) (0, (omega arith, tt))
 
 begun : (tree : Tree) → tree ≡ (zero, []) → come_to 0 tree ≡ begin
 begun tree is = ap (come_to 0) is

@@ -1,5 +1,5 @@
 -- An arena of the tree over a table's leaves holds the tree that one batch of its rows leaves.
-use Rattle.std.proofs.Common.{◌≡◌, ℕ, zero, List, [], ◌∷◌, length, map, None, sym, ap, subst, arith, ◌∙◌}
+use Rattle.std.proofs.Common.{◌≡◌, ℕ, zero, List, [], ◌∷◌, length, map, None, refl, sym, ap, subst, arith, ◌∙◌}
 use Rattle.palm_base.specs.Table.{IsTable}
 use Rattle.palm_base.specs.Tree.{Tree, rows_of}
 use Rattle.palm_base.specs.Pass.{leaves_of, top, set_of, batch_tree}
@@ -7,6 +7,7 @@ use Rattle.palm_base.specs.Lawful.{IsLawful}
 use Rattle.palm_base.specs.Lows.{PrefixesHold, LowsAreKeys}
 use Rattle.palm_base.specs.declared.row.Row.{Row}
 use Rattle.palm_base.proofs.Batches.{batches_keep_rows}
+use Rattle.palm_base.proofs.EmptyTree.{empty_is_lawful}
 use Rattle.palm_base.proofs.Lows.{batches_keep_lows}
 use Rattle.palm_base.proofs.PrefixRows.{sets_prefixes}
 use Rattle.palm_base.proofs.RisingRows.{put_all_none}
@@ -26,13 +27,9 @@ unfolding empty_tree
 none_built [] none = sym (built [] tt ∙ leaf_top [] (omega arith))
 none_built (row ∷ rows) some = absurd (omega arith)
 
-empty_lawful : IsLawful empty_tree
-unfolding empty_tree
-empty_lawful = (0, (omega arith, tt))
-
 rows_built : (rows : List Row) → IsTable rows → rows_of (batch_tree (zero, []) (map set_of rows)) ≡ rows
 unfolding empty_tree
-rows_built rows table = batches_keep_rows empty_tree (map set_of rows) empty_lawful ∙ put_all_none 0 (key_bound rows) rows (table_rises rows table)
+rows_built rows table = batches_keep_rows empty_tree (map set_of rows) (empty_is_lawful empty_tree refl) ∙ put_all_none 0 (key_bound rows) rows (table_rises rows table)
 
 pub holds_built : (arena : ArenaState) (shape : Shape) (rows : List Row) (count : ℕ) → arena.begun ≡ None → NoneLent arena.places → IsWhole (map_of arena.places) shape
     → tree_of arena.places shape ≡ top zero (leaves_of 0 rows) → IsTable rows → PrefixesHold rows → count ≡ length rows

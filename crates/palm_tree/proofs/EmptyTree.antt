@@ -4,9 +4,9 @@ use mathlib.Core.Logic.{dite}
 use native.Mathlib.Decide.{ℕ_discrete}
 use Rattle.std.specs.List.{Contains, IsDistinct}
 use Rattle.palm_base.specs.Tree.{Tree, rows_of}
-use Rattle.palm_base.specs.Lawful.{IsLawful}
 use Rattle.palm_base.specs.Lows.{LowsAreKeys}
 use Rattle.palm_base.specs.declared.row.Row.{Row}
+use Rattle.palm_base.proofs.EmptyTree.{empty_is_lawful}
 use Rattle.palm_node.specs.declared.id.NodeId.{NodeId}
 use Rattle.palm_node.specs.declared.node.Node.{Node}
 use Rattle.palm_node.specs.declared.node.Node.TheVariants.{Leaf}
@@ -70,7 +70,7 @@ holds_empty id arena idle e =
       idle = idle;
       none_lent = rw e (none_lent_alone id);
       whole = rw e (whole_alone id);
-      lawful = rw e (subst IsLawful (sym value) (0, (omega arith, tt)));
+      lawful = rw e (empty_is_lawful (tree_of (leaf_alone id) (record { root = id; levels = 1 })) value);
       lows = rw e (subst LowsAreKeys (sym value) tt);
       count = rw e (ap (λ (tree : Tree). length (rows_of tree)) value);
     }

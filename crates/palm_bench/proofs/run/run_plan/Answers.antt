@@ -1,9 +1,10 @@
 use Rattle.std.proofs.Common.{ap}
 use Rattle.std.proofs.lemmas.Result.{IfOk-weaker}
 use Rattle.palm_base.specs.Tree.{rows_of}
+use Rattle.palm_base.proofs.EmptyTree.{empty_is_lawful}
 use Rattle.palm_tree.specs.TreeValue.{tree_in}
 use Rattle.palm_bench.specs.Runs.{HasRun, Leaves}
-use Rattle.palm_bench.proofs.Running.{empty_is_lawful, load_leaves, calls_leave}
+use Rattle.palm_bench.proofs.Running.{load_leaves, calls_leave}
 use Rattle.palm_bench.proofs.run.run_plan.Goals as goal
 
 pub run_calls-requires-clause-lawful : goal.run_calls-requires-clause-lawful

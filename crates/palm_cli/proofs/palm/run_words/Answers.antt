@@ -1,5 +1,5 @@
+use Rattle.palm_base.proofs.EmptyTree.{empty_is_lawful}
 use Rattle.palm_tree.specs.TreeValue.{tree_in}
-use Rattle.palm_cli.proofs.Endings.{empty_is_lawful}
 use Rattle.palm_cli.proofs.Statuses.{memory_ends}
 use Rattle.palm_cli.proofs.palm.run_words.Goals as goal
 

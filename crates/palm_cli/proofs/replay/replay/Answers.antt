@@ -1,11 +1,12 @@
 use Rattle.std.proofs.Common.{◌≡◌, Bool, Err, refl, sym, ap, subst, ◌∙◌}
 use Rattle.std.specs.Prelude.{◌&&◌, is_none}
+use Rattle.palm_base.proofs.EmptyTree.{empty_is_lawful}
 use Rattle.palm_tree.specs.TreeValue.{tree_in}
 use Rattle.palm_script.specs.Input.{is_whole}
 use Rattle.palm_script.specs.Script.{Outcome, Says, script_of}
 use Rattle.palm_cli.specs.Ends.{EndsAs}
 use Rattle.palm_cli.specs.declared.status.Status.{Status}
-use Rattle.palm_cli.proofs.Endings.{empty_is_lawful, said_text, said_front, said_tree, said_cost}
+use Rattle.palm_cli.proofs.Endings.{said_text, said_front, said_tree, said_cost}
 use Rattle.palm_cli.proofs.Outcomes.{Ran, run_ends}
 use Rattle.palm_cli.proofs.Statuses.{stop_ends}
 use Rattle.palm_cli.proofs.Stopped.{stopped}

@@ -1,8 +1,9 @@
 use Rattle.std.proofs.Common.{◌≡◌, ℕ, ap, sym, ◌∙◌}
 use Rattle.std.proofs.lemmas.Result.{on_ok_weaker, on_err_weaker}
+use Rattle.palm_base.proofs.EmptyTree.{empty_is_lawful}
 use Rattle.palm_tree.specs.TreeValue.{tree_in}
 use Rattle.palm_script.specs.Transcript.{Progress, sections_by, come_to}
-use Rattle.palm_cli.proofs.Endings.{empty_is_lawful, cost_of_run, run_comes_to, run_text, run_front, text_front, text_ended, end_front}
+use Rattle.palm_cli.proofs.Endings.{cost_of_run, run_comes_to, run_text, run_front, text_front, text_ended, end_front}
 use Rattle.palm_cli.proofs.Fronts.{on_err}
 use Rattle.palm_cli.proofs.replay.run_script.Goals as goal
 

@@ -1,5 +1,6 @@
 use Rattle.std.proofs.Common.{◌≡◌, zero, List, [], Some, None, refl, sym, ap, subst, arith, ◌∙◌}
 use Rattle.palm_base.specs.declared.row.Row.{Row}
+use Rattle.palm_base.proofs.EmptyTree.{empty_is_lawful}
 use Rattle.palm_node.specs.declared.id.NodeId.{NodeId}
 use Rattle.palm_node.specs.declared.node.Node.TheVariants.{Leaf}
 use Rattle.palm_arena.specs.declared.place.Place.{Place}
@@ -20,7 +21,7 @@ has_tree : (id : NodeId) (places : List Place) → places ≡ with_place [] id (
 has_tree id places e = record {
   tree = (zero, []);
   reads-as = (refl, ap (λ (p : List Place). leaf_in (map_of p id)) e ∙ ap (λ p. leaf_in (node_in p)) (put_stands [] id (Holds (Leaf []))));
-  lawful = (0, (omega arith, tt));
+  lawful = empty_is_lawful (zero, []) refl;
   lows = tt;
 }
 
