@@ -20,6 +20,7 @@ pub mod LiteralPasses
 pub mod LiteralPlaces
 pub mod LiteralTrees
 pub mod Lows
+pub mod Numerals
 pub mod OrphanSorts
 pub mod Orphans
 pub mod Outcomes

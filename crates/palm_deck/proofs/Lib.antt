@@ -1,6 +1,5 @@
 pub mod Examples
 pub mod Fields
-pub mod Numerals
 pub mod ReadsBack
 pub mod Records
 pub mod Said

@@ -14,10 +14,10 @@ use Rattle.palm_base.specs.Text.{digits_text}
 use Rattle.palm_base.specs.declared.amount.TheConstants.{MOST_RATE}
 use Rattle.palm_base.specs.declared.row.Row.{Row}
 use Rattle.palm_base.specs.declared.call.Call.TheVariants.{Set}
+use Rattle.palm_base.proofs.Numerals.{value_of-decimal, is_from_to-decimal, digits_in-digits_text, read_of-digits_text}
 use Rattle.palm_deck.specs.declared.deck.DeckWhy.TheVariants.{Prefix, Rate}
 use Rattle.palm_deck.specs.Deck.{Record, before, call_at, calls_from, calls_in, deck_text, placed, row_line, set_in}
 use Rattle.palm_deck.specs.Laws.{AreRows, DecksReadBack}
-use Rattle.palm_deck.proofs.Numerals.{value_of-decimal, is_from_to-decimal, digits_in-digits_text, read_of-digits_text}
 use Rattle.palm_deck.proofs.Records.{all_records}
 use Rattle.palm_deck.proofs.Written.{header_is, line_is}
 

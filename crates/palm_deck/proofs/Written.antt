@@ -11,8 +11,8 @@ use Rattle.palm_base.specs.Prefix.{IsPrefix, is_no_digit}
 use Rattle.palm_base.specs.Text.{digits_text}
 use Rattle.palm_base.specs.declared.row.Row.{Row}
 use Rattle.palm_base.proofs.Appended.{flat_map_next}
+use Rattle.palm_base.proofs.Numerals.{all_digits, decimal_text, prefix_text}
 use Rattle.palm_deck.specs.Deck.{row_line}
-use Rattle.palm_deck.proofs.Numerals.{all_digits, decimal_digits, prefix_digits}
 
 -- no byte of the field asks for quotes
 abbrev IsPlain : List ℕ → Type 0
@@ -31,8 +31,8 @@ pub line_is : (row : Row) → IsPrefix row.prefix → row.rate < 2 ^ 64
     → row_text default_writer (codes "set" ∷ digits_text row.prefix ∷ decimal row.rate ∷ []) ≡ row_line row
 unfolding fields_text is_blank
 line_is row prefix small =
-    let digits = plain_digits (digits_text row.prefix) (prefix_digits row.prefix prefix.small) in
-    let rate = plain_digits (decimal row.rate) (decimal_digits row.rate small) in
+    let digits = plain_digits (digits_text row.prefix) (prefix_text row.prefix prefix).digits in
+    let rate = plain_digits (decimal row.rate) (decimal_text row.rate).digits in
     rw (digits, rate) (ap (λ (t : List ℕ). codes "set," ++ t) (append_assoc (digits_text row.prefix) (codes "," ++ (decimal row.rate ++ [])) (codes "\n") ∙ ap (λ (l : List ℕ). digits_text row.prefix ++ (codes "," ++ (l ++ codes "\n"))) (append-nil (decimal row.rate))))
 
 pub header_is : row_text default_writer (codes "op" ∷ codes "prefix" ∷ codes "rate" ∷ []) ≡ codes "op,prefix,rate\n"

@@ -1,6 +1,5 @@
 pub mod Callers
 pub mod Cuts
-pub mod Decimals
 pub mod Examples
 pub mod Faults
 pub mod Fields

@@ -1,29 +1,11 @@
--- Digits of prefixes, and numbers in decimal, as texts: fields of digits that read as what they spell.
-use Rattle.std.proofs.Common.{◌≡◌, ℕ, ◌+◌, ◌-◌, ◌<◌, ◌≤◌, ◌^◌, Bool, true, false, not, cond, eqb, ltb, leb, List, [], ◌∷◌, length, take, get_or, All, Some, None, Ok, Err, refl, ap, ◌∙◌, arith, rules}
-use Rattle.std.specs.List.{list_all, position, position_or_len}
-use Rattle.std.specs.Fmt.{decimal}
-use Rattle.std.specs.Int.Digits.{number_from_digits_after}
-use Rattle.std.proofs.lemmas.Bool.{and_parts, lt-ltb, le-leb, le-ltb, ne_eqb}
-use Rattle.std.proofs.lemmas.Fmt.{digits_decimal, digits_value-decimal, length-decimal-le, decimal_nonempty}
-use Rattle.std.proofs.lemmas.List.{take_all, length-map}
+-- Texts of digits in lines: no blank stands in one, and none begins with another byte. So a blank ends it.
+use Rattle.std.proofs.Common.{◌≡◌, ℕ, ◌<◌, ◌^◌, true, false, not, eqb, List, [], ◌∷◌, ◌++◌, get_or, All, decimal, refl, arith}
+use Rattle.std.proofs.lemmas.Bool.{and_parts, ne_eqb}
+use Rattle.std.proofs.lemmas.Fmt.{decimal_injective}
 use Rattle.std.proofs.lemmas.List.Sums.{AllPass-from_list_all}
-use Rattle.std.proofs.lemmas.Str.Parse.{IsNumeralModel, numerals_by_fold}
-use Rattle.palm_base.specs.declared.digits.TheConstants.{MOST_DIGITS}
-use Rattle.palm_base.specs.declared.digits.DigitsFault.TheVariants.{Empty, Long}
-use Rattle.palm_base.specs.declared.number.TheConstants.{MOST_NUMBER_DIGITS}
-use Rattle.palm_base.specs.Numbers.{value_of, is_number, is_from_to}
-use Rattle.palm_base.specs.Prefix.{AreDigits, IsPrefix, is_no_digit, digits_in, read_of, read_at}
-use Rattle.palm_base.specs.Text.{digits_text}
+use Rattle.palm_base.specs.Prefix.{is_no_digit}
+use Rattle.palm_base.proofs.Numerals.{IsDigitText, all_digits, decimal_text}
 use Rattle.palm_script.specs.Line.{is_blank}
-
--- each byte of a text is a digit
-abbrev all_digits : List ℕ → Bool
-all_digits text = list_all (λ b. not (is_no_digit b)) text
-
--- a text of one digit or more
-pub record IsDigitText (text : List ℕ) : Type 0 where
-  pub some : 0 < length text
-  pub digits : all_digits text ≡ true
 
 byte_no_blank : (b : ℕ) → not (is_no_digit b) ≡ true → is_blank b ≡ false
 byte_no_blank b h = grind arith
@@ -32,75 +14,37 @@ byte_no_blank b h = grind arith
 pub no_blank : (text : List ℕ) → IsDigitText text → All (λ b. is_blank b ≡ false) text
 no_blank text h k d lt = byte_no_blank (get_or text k d) (AllPass-from_list_all (λ b. not (is_no_digit b)) text h.digits k d lt)
 
-byte_differs : (b other : ℕ) → not (is_no_digit b) ≡ true → is_no_digit other ≡ true → eqb b other ≡ false
-byte_differs b other h k = grind arith
+-- where a text of digits begins with a byte, the byte is a digit
+first_is_other : (b other : ℕ) (bs : List ℕ) → all_digits (b ∷ bs) ≡ true → is_no_digit other ≡ true → b ≡ other → ⊥
+first_is_other b other bs digits no_digit same = by (and_parts (not (is_no_digit b)) (all_digits bs) digits).0
+  where
+    by : not (is_no_digit b) ≡ true → ⊥
+    by digit = cc
 
 -- it begins with no other byte
 pub other_first : (b other : ℕ) (bs : List ℕ) → IsDigitText (b ∷ bs) → is_no_digit other ≡ true → eqb b other ≡ false
-other_first b other bs h k = byte_differs b other (and_parts (not (is_no_digit b)) (all_digits bs) h.digits).0 k
+other_first b other bs h no_digit = ne_eqb b other (first_is_other b other bs h.digits no_digit)
 
--- ---- numbers in decimal
+no_sign : (bs more rest : List ℕ) → IsDigitText bs → bs ++ more ≡ 61 ∷ rest → ⊥
+no_sign [] more rest h e = omega (arith, h.some)
+no_sign (b ∷ bs) more rest h e = first_is_other b 61 bs h.digits refl (cc)
 
-own : IsNumeralModel (λ text. all_digits text ≡ true) value_of
-own = numerals_by_fold _ (search rules) (λ n text. number_from_digits_after 10 n (digits_in text)) (search rules)
+-- A number is no '='.
+pub number_is_no_sign : (n : ℕ) (more rest : List ℕ) → decimal n ++ more ≡ 61 ∷ rest → ⊥
+number_is_no_sign n more rest e = no_sign (decimal n) more rest (decimal_text n) e
 
-pub decimal_text : (n : ℕ) → n < 2 ^ 64 → IsDigitText (decimal n)
-decimal_text n small = record { some = decimal_nonempty n small; digits = digits_decimal own n small }
+to_blank : (xs ys more rest : List ℕ) → all_digits xs ≡ true → all_digits ys ≡ true → xs ++ 32 ∷ more ≡ ys ++ 32 ∷ rest → xs ≡ ys
+to_blank [] [] more rest x-digits y-digits e = refl
+to_blank [] (y ∷ ys) more rest x-digits y-digits e = absurd (first_is_other y 32 ys y-digits refl (cc))
+to_blank (x ∷ xs) [] more rest x-digits y-digits e = absurd (first_is_other x 32 xs x-digits refl (cc))
+to_blank (x ∷ xs) (y ∷ ys) more rest x-digits y-digits e =
+    let x-parts = and_parts (not (is_no_digit x)) (all_digits xs) x-digits in
+    let y-parts = and_parts (not (is_no_digit y)) (all_digits ys) y-digits in
+    let first : x ≡ y = cc in
+    let others : xs ≡ ys = to_blank xs ys more rest x-parts.1 y-parts.1 (cc) in
+    cc
 
-pub value_of-decimal : (n : ℕ) → n < 2 ^ 64 → value_of (decimal n) ≡ n
-value_of-decimal n small = digits_value-decimal own n small
-
-pub length-decimal : (n : ℕ) → n < 2 ^ 64 → length (decimal n) ≤ MOST_NUMBER_DIGITS
-length-decimal n small = length-decimal-le MOST_NUMBER_DIGITS n (omega arith) (omega arith) small
-
-is_number-decimal : (n : ℕ) → n < 2 ^ 64 → is_number (decimal n) ≡ true
-is_number-decimal n small =
-    let some : ltb 0 (length (decimal n)) ≡ true = lt-ltb 0 (length (decimal n)) (decimal_nonempty n small) in
-    let few : leb (length (decimal n)) MOST_NUMBER_DIGITS ≡ true = le-leb (length (decimal n)) MOST_NUMBER_DIGITS (length-decimal n small) in
-    rw (some, few) (digits_decimal own n small)
-
-pub is_from_to-decimal : (least most n : ℕ) → n < 2 ^ 64 → least ≤ n → n ≤ most → is_from_to least most (decimal n) ≡ true
-is_from_to-decimal least most n small low high =
-    let above : leb least n ≡ true = le-leb least n low in
-    let below : leb n most ≡ true = le-leb n most high in
-    rw (is_number-decimal n small, value_of-decimal n small, above, below) refl
-
--- ---- digits of prefixes
-
-byte_is : (d : ℕ) → d < 10 → is_no_digit (d + 48) ≡ false
-byte_is d h = grind arith
-
-all_spelled : (ds : List ℕ) → AreDigits ds → all_digits (digits_text ds) ≡ true
-all_spelled [] h = refl
-all_spelled (d ∷ ds) h = rw (byte_is d h.0) (all_spelled ds h.1)
-
-pub length-digits_text : (ds : List ℕ) → length (digits_text ds) ≡ length ds
-length-digits_text ds = length-map ds (λ d. d + 48)
-
-pub prefix_text : (ds : List ℕ) → IsPrefix ds → IsDigitText (digits_text ds)
-prefix_text ds h = record { some = omega (arith, length-digits_text ds, h.some); digits = all_spelled ds h.small }
-
-pub digits_in-digits_text : (ds : List ℕ) → digits_in (digits_text ds) ≡ ds
-digits_in-digits_text [] = refl
-digits_in-digits_text (d ∷ ds) = (λ i. one i ∷ digits_in-digits_text ds i)
-  where
-    one : (d + 48) - 48 ≡ d
-    one = omega arith
-
--- in a text of digits no other byte stands
-no_other : (text : List ℕ) → all_digits text ≡ true → position_or_len is_no_digit text ≡ length text
-no_other [] h = refl
-no_other (b ∷ text) h =
-    let parts = and_parts (not (is_no_digit b)) (all_digits text) h in
-    rw parts.0 (omega (arith, no_other text parts.1))
-
-pub read_of-digits_text : (ds : List ℕ) → IsPrefix ds → read_of (digits_text ds) ≡ Ok ds
-read_of-digits_text ds h =
-    let text : List ℕ = digits_text ds in
-    let size : length text ≡ length ds = length-digits_text ds in
-    let whole : take MOST_DIGITS text ≡ text = take_all MOST_DIGITS text (omega (arith, size, h.few)) in
-    let none : position is_no_digit (take MOST_DIGITS text) ≡ None =
-    ap (position is_no_digit) whole ∙ ap (λ k. cond (ltb k (length text)) (Some k) None) (no_other text (all_spelled ds h.small)) ∙ ap (λ b. cond b (Some (length text)) None) (le-ltb (length text) (length text) (omega arith)) in
-    ap (λ b. cond b (Err Empty) (read_at (position is_no_digit (take MOST_DIGITS text)) text)) (ne_eqb (length text) 0 (λ e. omega (arith, size, h.some)))
-    ∙ ap (λ o. read_at o text) none ∙ ap (λ b. cond b (Err Long) (Ok (digits_in text))) (le-ltb MOST_DIGITS (length text) (omega (arith, size, h.few)))
-    ∙ ap (λ (l : List ℕ). Ok l) (digits_in-digits_text ds)
+-- A text that begins with a number and a blank begins with no other.
+pub number_to_blank : (m n : ℕ) (more rest : List ℕ) → m < 2 ^ 64 → n < 2 ^ 64 → decimal m ++ 32 ∷ more ≡ decimal n ++ 32 ∷ rest → m ≡ n
+number_to_blank m n more rest m-small n-small e =
+    decimal_injective m n m-small n-small (to_blank (decimal m) (decimal n) more rest (decimal_text m).digits (decimal_text n).digits e)

@@ -7,7 +7,7 @@ use Rattle.palm_base.specs.declared.call.Reply.{Reply}
 use Rattle.palm_base.specs.History.{replies_to}
 use Rattle.palm_base.specs.Table.{answer, after}
 use Rattle.palm_script.specs.Transcript.{reply_line, reply_lines}
-use Rattle.palm_script.proofs.Decimals.{number_is_no_sign, number_to_blank}
+use Rattle.palm_script.proofs.Numerals.{number_is_no_sign, number_to_blank}
 use Rattle.palm_script.proofs.Shuffles.{AreShuffles, first_is_same, rest_is_shuffled}
 
 -- Texts of three parts that are one text are so too where the second and the third part are put together.

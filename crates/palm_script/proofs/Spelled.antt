@@ -11,6 +11,7 @@ use Rattle.palm_base.specs.declared.digits.TheConstants.{MOST_DIGITS}
 use Rattle.palm_base.specs.declared.amount.TheConstants.{MOST_RATE, MOST_LIMIT}
 use Rattle.palm_base.specs.declared.call.Call.{Call}
 use Rattle.palm_base.specs.declared.call.Call.TheVariants.{Set, Del, Get, Rate, List as Listing}
+use Rattle.palm_base.proofs.Numerals.{IsDigitText, decimal_text, value_of-decimal, length-decimal, is_from_to-decimal, length-digits_text, prefix_text, digits_in-digits_text, read_of-digits_text}
 use Rattle.palm_script.specs.Laws.{LinesReadBack}
 use Rattle.palm_script.specs.Line.{fields, is_caller, is_rate, is_limit, is_dialled, set_of, del_of, get_of, rate_of, list_of, call_of, made_by, said_by, meaning_of}
 use Rattle.palm_script.specs.Spelling.{call_text, plain_text, IsSayableCall, IsSayable}
@@ -19,7 +20,7 @@ use Rattle.palm_script.specs.declared.line.Line.{Line}
 use Rattle.palm_script.specs.declared.line.Line.TheVariants.{Skip, Made, Cut, Dump}
 use Rattle.palm_script.specs.declared.line.LineWhy.TheVariants.{Long}
 use Rattle.palm_script.proofs.Fields.{one_field, field_before}
-use Rattle.palm_script.proofs.Numerals.{IsDigitText, no_blank, other_first, decimal_text, value_of-decimal, length-decimal, is_from_to-decimal, length-digits_text, prefix_text, digits_in-digits_text, read_of-digits_text}
+use Rattle.palm_script.proofs.Numerals.{no_blank, other_first}
 
 -- ---- fields
 
@@ -38,7 +39,7 @@ set_reads : (prefix : List ℕ) (rate : ℕ) → IsSayableCall (Set prefix rate)
 set_reads prefix rate (h, high) =
     let small : rate < 2 ^ 64 = omega arith in
     let parts : fields (digits_text prefix ++ (codes " " ++ decimal rate)) ≡ digits_text prefix ∷ decimal rate ∷ [] =
-    next_field (digits_text prefix) (decimal rate) (prefix_text prefix h) ∙ ap (λ (l : List (List ℕ)). digits_text prefix ∷ l) (last_field (decimal rate) (decimal_text rate small)) in
+    next_field (digits_text prefix) (decimal rate) (prefix_text prefix h) ∙ ap (λ (l : List (List ℕ)). digits_text prefix ∷ l) (last_field (decimal rate) (decimal_text rate)) in
     let is : is_rate (decimal rate) ≡ true = is_from_to-decimal 0 MOST_RATE rate small (omega arith) high in
     ap set_of parts ∙ rw (dialled prefix h, is, digits_in-digits_text prefix, value_of-decimal rate small) refl
 
@@ -56,7 +57,7 @@ list_reads : (from to : List ℕ) (limit : ℕ) → IsSayableCall (Listing from 
 list_reads from to limit (h, k, low, high) =
     let small : limit < 2 ^ 64 = omega arith in
     let ends : fields (digits_text to ++ (codes " " ++ decimal limit)) ≡ digits_text to ∷ decimal limit ∷ [] =
-    next_field (digits_text to) (decimal limit) (prefix_text to k) ∙ ap (λ (l : List (List ℕ)). digits_text to ∷ l) (last_field (decimal limit) (decimal_text limit small)) in
+    next_field (digits_text to) (decimal limit) (prefix_text to k) ∙ ap (λ (l : List (List ℕ)). digits_text to ∷ l) (last_field (decimal limit) (decimal_text limit)) in
     let parts : fields (digits_text from ++ (codes " " ++ (digits_text to ++ (codes " " ++ decimal limit)))) ≡ digits_text from ∷ digits_text to ∷ decimal limit ∷ [] =
     next_field (digits_text from) (digits_text to ++ (codes " " ++ decimal limit)) (prefix_text from h) ∙ ap (λ (l : List (List ℕ)). digits_text from ∷ l) ends in
     let is : is_limit (decimal limit) ≡ true = is_from_to-decimal 1 MOST_LIMIT limit small low high in
@@ -95,9 +96,9 @@ made_reads caller call (few, h) =
     let small : caller < 2 ^ 64 = omega arith in
     let text : List ℕ = plain_text (Made caller call) in
     let short : ltb MOST_LINE (length text) ≡ false = le-ltb MOST_LINE (length text) (omega (arith, length-append (decimal caller) (codes " " ++ call_text call), length-decimal caller small, call_short call h)) in
-    let parts : fields text ≡ decimal caller ∷ fields (call_text call) = next_field (decimal caller) (call_text call) (decimal_text caller small) in
+    let parts : fields text ≡ decimal caller ∷ fields (call_text call) = next_field (decimal caller) (call_text call) (decimal_text caller) in
     let is : is_caller (decimal caller) ≡ true = is_from_to-decimal 0 MOST_CALLER caller small (omega arith) few in
-    ap (λ b. cond b (Err Long) (said_by (fields text))) short ∙ ap said_by parts ∙ no_word (decimal caller) (fields (call_text call)) (decimal_text caller small)
+    ap (λ b. cond b (Err Long) (said_by (fields text))) short ∙ ap said_by parts ∙ no_word (decimal caller) (fields (call_text call)) (decimal_text caller)
     ∙ rw (is, value_of-decimal caller small, call_reads call h) refl
 
 means : (line : Line) → IsSayable line → meaning_of (plain_text line) ≡ Ok line
