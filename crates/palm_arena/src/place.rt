@@ -3,7 +3,7 @@ ghost use Rattle.std.specs.Prelude.{◌≡◌};
 use palm_node::Node;
 
 /// What stands at a place of an arena.
-#[derive(Clone, Debug, Drop)]
+#[derive(Debug, Drop)]
 pub enum Place {
     /// No node: its id is free.
     Empty,

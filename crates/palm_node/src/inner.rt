@@ -22,7 +22,7 @@ use std::marker::Model;
 /// The separators strictly rise. Contracts see the two lists.
 ///
 /// It has room for all children from the start, so no call on it takes memory.
-#[derive(Clone, Debug, Drop)]
+#[derive(Debug, Drop)]
 pub struct Inner {
     children: ArrayVec<NodeId, MOST_CHILDREN>,
     separators: [u64; MOST_CHILDREN],

@@ -21,7 +21,7 @@ use std::marker::Model;
 /// A leaf: at most `MOST_LEAF_ROWS` rows, whose keys strictly rise. Contracts see the list of rows.
 ///
 /// It has room for all of them from the start, so no call on it takes memory.
-#[derive(Clone, Debug, Drop)]
+#[derive(Debug, Drop)]
 pub struct Leaf {
     keys: [u64; MOST_LEAF_ROWS],
     rates: ArrayVec<Amount, MOST_LEAF_ROWS>,

@@ -4,7 +4,7 @@ use crate::inner::Inner;
 use crate::leaf::Leaf;
 
 /// A node of the tree.
-#[derive(Clone, Debug, Drop)]
+#[derive(Debug, Drop)]
 pub enum Node {
     Leaf(Leaf),
     Inner(Inner),

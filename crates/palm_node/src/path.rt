@@ -9,7 +9,7 @@ pub const MOST_PATH: usize = 16;
 
 /// A way down from the root: the inner nodes passed, and the place of the child taken at each. Contracts see the list
 /// of these pairs.
-#[derive(Clone, Debug, Drop)]
+#[derive(Debug, Drop)]
 pub struct Path {
     steps: ArrayVec<(NodeId, usize), MOST_PATH>,
 }
