@@ -1,5 +1,5 @@
--- Runs of calls: none, and a batch more. The sum over replies goes on where it was.
-use Rattle.std.proofs.Common.{◌≡◌, ℕ, zero, ◌+◌, List, [], ◌∷◌, ◌++◌, length, refl, sym, ap, subst, ◌∙◌, arith, length-append}
+-- Runs of calls: a batch more. The sum over replies goes on where it was.
+use Rattle.std.proofs.Common.{◌≡◌, ℕ, ◌+◌, List, [], ◌∷◌, ◌++◌, length, refl, sym, ap, subst, ◌∙◌, arith, length-append}
 use Rattle.std.specs.List.{AllByRecursion}
 use Rattle.palm_base.specs.History.{replies_to, table_after}
 use Rattle.palm_base.specs.declared.call.Entry.{Entry}

@@ -1,4 +1,4 @@
-use Rattle.std.proofs.Common.{◌≡◌, zero, List, [], Some, None, refl, sym, ap, subst, arith, ◌∙◌}
+use Rattle.std.proofs.Common.{◌≡◌, zero, List, [], Some, None, refl, sym, ap, subst, ◌∙◌}
 use Rattle.palm_base.specs.declared.row.Row.{Row}
 use Rattle.palm_base.proofs.EmptyTree.{empty_is_lawful}
 use Rattle.palm_node.specs.declared.id.NodeId.{NodeId}
