@@ -1,0 +1,90 @@
+-- Digits that are written read as themselves.
+use Rattle.std.proofs.Common.{◌≡◌, ℕ, zero, suc, ◌+◌, ◌-◌, ◌/◌, ◌%◌, ◌<◌, ◌≤◌, false, cond, ltb, List, [], ◌∷◌, ◌++◌, length, take, drop, replicate, set, Some, None, Ok, Err, refl, sym, ap, ◌∙◌, arith}
+use Rattle.std.specs.List.{position, position_or_len}
+use Rattle.std.proofs.Math.Seq.{take-add}
+use Rattle.std.proofs.lemmas.Bool.{le-ltb, ne_eqb}
+use Rattle.std.proofs.lemmas.List.{take_all, take-replicate, drop-replicate, map-append, length-append, length-map, length-replicate, take_more_set}
+use Rattle.palm_base.specs.declared.digits.TheConstants.{MOST_DIGITS}
+use Rattle.palm_base.specs.declared.digits.DigitsFault.TheVariants.{Empty, Long}
+use Rattle.palm_base.specs.Prefix.{AreDigits, IsPrefix, is_no_digit, digits_in, read_of, read_at}
+use Rattle.palm_base.specs.Text.{digits_text}
+use Rattle.palm_gen.specs.Generator.{last_digits}
+
+-- ---- digits of a number, and a digit after them
+
+joined_digits : (xs ys : List ℕ) → AreDigits xs → AreDigits ys → AreDigits (xs ++ ys)
+joined_digits [] ys h k = k
+joined_digits (x ∷ xs) ys h k = (h.0, joined_digits xs ys h.1 k)
+
+last_are_digits : (n v : ℕ) → AreDigits (last_digits n v)
+last_are_digits zero v = tt
+last_are_digits (suc n) v = joined_digits (last_digits n (v / 10)) (v % 10 ∷ []) (last_are_digits n (v / 10)) (omega arith, tt)
+
+length-last : (n v : ℕ) → length (last_digits n v) ≡ n
+length-last zero v = refl
+length-last (suc n) v = length-append (last_digits n (v / 10)) (v % 10 ∷ []) ∙ ap (λ k. k + 1) (length-last n (v / 10)) ∙ omega arith
+
+same_are_digits : (times d : ℕ) → d < 10 → AreDigits (replicate times d)
+same_are_digits zero d h = tt
+same_are_digits (suc times) d h = (h, same_are_digits times d h)
+
+are_prefix : (n v d times : ℕ) → 1 ≤ n → n + times ≤ MOST_DIGITS → d < 10 → IsPrefix (last_digits n v ++ replicate times d)
+are_prefix n v d times some room small =
+    let size : length (last_digits n v ++ replicate times d) ≡ n + times = length-append (last_digits n v) (replicate times d) ∙ (λ i. length-last n v i + length-replicate times d i) in
+    record {
+      some = omega (arith, size, some);
+      few = omega (arith, size, room);
+      small = joined_digits (last_digits n v) (replicate times d) (last_are_digits n v) (same_are_digits times d small);
+    }
+
+-- ---- what a text of digits reads as
+
+byte_is : (d : ℕ) → d < 10 → is_no_digit (d + 48) ≡ false
+byte_is d h = grind arith
+
+no_other : (ds : List ℕ) → AreDigits ds → position_or_len is_no_digit (digits_text ds) ≡ length (digits_text ds)
+no_other [] h = refl
+no_other (d ∷ ds) h = rw (byte_is d h.0) (omega (arith, no_other ds h.1))
+
+spelled : (ds : List ℕ) → digits_in (digits_text ds) ≡ ds
+spelled [] = refl
+spelled (d ∷ ds) = (λ i. one i ∷ spelled ds i)
+  where
+    one : (d + 48) - 48 ≡ d
+    one = omega arith
+
+reads : (ds : List ℕ) → IsPrefix ds → read_of (digits_text ds) ≡ Ok ds
+reads ds h =
+    let text : List ℕ = digits_text ds in
+    let size : length text ≡ length ds = length-map ds (λ d. d + 48) in
+    let whole : take MOST_DIGITS text ≡ text = take_all MOST_DIGITS text (omega (arith, size, h.few)) in
+    let none : position is_no_digit (take MOST_DIGITS text) ≡ None =
+    ap (position is_no_digit) whole ∙ ap (λ k. cond (ltb k (length text)) (Some k) None) (no_other ds h.small) ∙ ap (λ b. cond b (Some (length text)) None) (le-ltb (length text) (length text) (omega arith)) in
+    ap (λ b. cond b (Err Empty) (read_at (position is_no_digit (take MOST_DIGITS text)) text)) (ne_eqb (length text) 0 (λ e. omega (arith, size, h.some)))
+    ∙ ap (λ o. read_at o text) none ∙ ap (λ b. cond b (Err Long) (Ok (digits_in text))) (le-ltb MOST_DIGITS (length text) (omega (arith, size, h.few)))
+    ∙ ap (λ (l : List ℕ). Ok l) (spelled ds)
+
+-- ---- a text that begins with the digits of a number
+
+-- with its last digit they are one more
+pub one_more : (text new : List ℕ) (n v b : ℕ) → n < length text → new ≡ set text n b → b ≡ 48 + v % 10 → take n text ≡ digits_text (last_digits n (v / 10)) → take (suc n) new ≡ digits_text (last_digits (suc n) v)
+one_more text new n v b inside new-is b-is front =
+    let more : suc n ≡ n + 1 = omega arith in
+    let last : b ≡ v % 10 + 48 = omega (arith, b-is) in
+    ap (λ k. take k new) more ∙ ap (take (n + 1)) new-is ∙ take_more_set text n b inside ∙ (λ i. front i ++ last i ∷ []) ∙ sym (map-append (λ d. d + 48) (last_digits n (v / 10)) (v % 10 ∷ []))
+
+same_text : (times d : ℕ) → replicate times (d + 48) ≡ digits_text (replicate times d)
+same_text zero d = refl
+same_text (suc times) d = ap (λ (l : List ℕ). (d + 48) ∷ l) (same_text times d)
+
+front_is : (n v d b times : ℕ) (text : List ℕ) → b ≡ d + 48 → n + times ≤ MOST_DIGITS → take n text ≡ digits_text (last_digits n v) → drop n text ≡ drop n (replicate MOST_DIGITS b)
+    → take (n + times) text ≡ digits_text (last_digits n v ++ replicate times d)
+front_is n v d b times text byte room front rest =
+    take-add n times text ∙ (λ i. front i ++ take times (rest i))
+    ∙ ap (λ (l : List ℕ). digits_text (last_digits n v) ++ l) (ap (take times) (drop-replicate n MOST_DIGITS b) ∙ take-replicate times (MOST_DIGITS - n) b (omega arith) ∙ ap (replicate times) byte ∙ same_text times d)
+    ∙ sym (map-append (λ d. d + 48) (last_digits n v) (replicate times d))
+
+pub all_read : (n v d b times : ℕ) (text : List ℕ) → b ≡ d + 48 → 1 ≤ n → n + times ≤ MOST_DIGITS → d < 10 → take n text ≡ digits_text (last_digits n v) → drop n text ≡ drop n (replicate MOST_DIGITS b)
+    → read_of (take (n + times) text) ≡ Ok (last_digits n v ++ replicate times d)
+all_read n v d b times text byte some room small front rest =
+    ap read_of (front_is n v d b times text byte room front rest) ∙ reads (last_digits n v ++ replicate times d) (are_prefix n v d times some room small)
