@@ -1,6 +1,6 @@
 -- Worked examples of words, which the checker computes.
 use Rattle.std.proofs.Common.{◌≡◌, [], ◌∷◌, Some, None, refl, codes}
-use Rattle.palm_words.specs.declared.settings.Mode.TheVariants.{Replay}
+use Rattle.palm_words.specs.declared.settings.Mode.TheVariants.{Replay, Deck, Gen}
 use Rattle.palm_script.specs.declared.dump.DumpWhen.TheVariants.{Never, AtEnd}
 use Rattle.palm_words.specs.declared.settings.Settings.{Settings}
 use Rattle.palm_words.specs.Items.{items_from, option, mode_word}
@@ -30,6 +30,12 @@ items-refused = refl
 
 of_form-mode : settings_of (codes "replay" ∷ []) ≡ Some defaults
 of_form-mode = refl
+
+of_form-deck : settings_of (codes "deck" ∷ []) ≡ Some (record defaults { mode = Deck })
+of_form-deck = refl
+
+of_form-gen : settings_of (codes "gen" ∷ codes "--seed" ∷ codes "7" ∷ codes "--calls=5" ∷ []) ≡ Some (record defaults { mode = Gen; seed = 7; calls = 5 })
+of_form-gen = refl
 
 of_form-both_forms : settings_of (codes "replay" ∷ codes "--batch" ∷ codes "4" ∷ codes "--window=007" ∷ []) ≡ Some (record defaults { batch = 4; window = 7 })
 of_form-both_forms = refl

@@ -4,11 +4,13 @@ use Rattle.std.specs.List.{list_all}
 use Rattle.std.specs.Map.{lookup}
 use Rattle.std.specs.Str.{bytes_eq}
 use Rattle.palm_base.specs.Numbers.{value_of, is_from_to}
+use Rattle.palm_share.specs.declared.share.TheConstants.{MOST_WORKERS}
+use Rattle.palm_gen.specs.declared.summary.TheConstants.{MOST_GENERATED_CALLS}
 use Rattle.palm_words.specs.Items.{Text, items_from, values_of, mode_words}
-use Rattle.palm_words.specs.declared.settings.TheConstants.{MOST_WORKERS, MOST_BATCH, MOST_WINDOW, MOST_SEED, MOST_CALLS, DEFAULT_WORKERS, DEFAULT_BATCH, DEFAULT_WINDOW, DEFAULT_SEED, DEFAULT_CALLS}
+use Rattle.palm_words.specs.declared.settings.TheConstants.{MOST_BATCH, MOST_WINDOW, MOST_SEED, DEFAULT_WORKERS, DEFAULT_BATCH, DEFAULT_WINDOW, DEFAULT_SEED, DEFAULT_GENERATED_CALLS}
 use Rattle.palm_words.specs.declared.settings.Settings.{Settings}
 use Rattle.palm_words.specs.declared.settings.Mode.{Mode}
-use Rattle.palm_words.specs.declared.settings.Mode.TheVariants.{Replay}
+use Rattle.palm_words.specs.declared.settings.Mode.TheVariants.{Replay, Deck, Gen}
 use Rattle.palm_script.specs.declared.dump.DumpWhen.{DumpWhen}
 use Rattle.palm_script.specs.declared.dump.DumpWhen.TheVariants.{Never, AtEnd, Always}
 use Rattle.palm_words.specs.declared.words.WordsFault.{WordsFault}
@@ -18,7 +20,7 @@ use Rattle.palm_words.specs.declared.words.WordsFault.TheVariants.{Usage, NoMemo
 
 -- The modes, by their words.
 abbrev pub modes : List (Text × Mode)
-modes = (codes "replay", Replay) ∷ []
+modes = (codes "replay", Replay) ∷ (codes "deck", Deck) ∷ (codes "gen", Gen) ∷ []
 
 -- What the VALUEs of `dump` say.
 abbrev pub dumps : List (Text × DumpWhen)
@@ -44,7 +46,7 @@ options =
     ∷ (codes "window", is_from_to 1 MOST_WINDOW)
     ∷ (codes "dump", is_dump)
     ∷ (codes "seed", is_from_to 0 MOST_SEED)
-    ∷ (codes "calls", is_from_to 0 MOST_CALLS)
+    ∷ (codes "calls", is_from_to 0 MOST_GENERATED_CALLS)
     ∷ []
 
 -- The names of the options.
@@ -88,7 +90,7 @@ settings values mode = record {
   window = number_or DEFAULT_WINDOW (values (codes "window"));
   dump = dump_or_never (values (codes "dump"));
   seed = number_or DEFAULT_SEED (values (codes "seed"));
-  calls = number_or DEFAULT_CALLS (values (codes "calls"));
+  calls = number_or DEFAULT_GENERATED_CALLS (values (codes "calls"));
 }
 
 -- What mode words and the VALUEs of options set, or none where one of them isn't as it may be.
@@ -108,7 +110,7 @@ pub record AreWithin (s : Settings) : Type 0 where
   pub few_batch : s.batch ≤ MOST_BATCH
   pub some_window : 1 ≤ s.window
   pub few_window : s.window ≤ MOST_WINDOW
-  pub few_calls : s.calls ≤ MOST_CALLS
+  pub few_calls : s.calls ≤ MOST_GENERATED_CALLS
 
 -- What a fault is called.
 abbrev pub fault_text : WordsFault → List ℕ

@@ -2,9 +2,6 @@
 
 use palm_script::DumpWhen;
 
-/// The greatest number of workers.
-pub const MOST_WORKERS: u32 = 64;
-
 /// The number of workers where the words don't say it.
 pub const DEFAULT_WORKERS: u32 = 1;
 
@@ -26,17 +23,18 @@ pub const MOST_SEED: u64 = u64::MAX;
 /// The seed where the words don't say it.
 pub const DEFAULT_SEED: u64 = 0;
 
-/// The most calls that are made up.
-pub const MOST_CALLS: u64 = 10_000_000;
-
-/// How many calls are made up where the words don't say it.
-pub const DEFAULT_CALLS: u64 = 1_000;
+/// How many calls are generated where the words don't say it.
+pub const DEFAULT_GENERATED_CALLS: u64 = 1_000;
 
 /// What the program does.
 #[derive(Clone, Copy, Debug, PartialEq, Eq)]
 pub enum Mode {
     /// It runs a script.
     Replay,
+    /// It reads a deck whole, runs its edits, and writes the table that they leave as a deck.
+    Deck,
+    /// It reads nothing, runs generated calls, and writes a summary.
+    Gen,
 }
 
 /// What the words set. A mode that has no use for a number doesn't look at it.
@@ -50,8 +48,8 @@ pub struct Settings {
     /// How many calls a caller may have under way.
     pub window: u32,
     pub dump: DumpWhen,
-    /// What made-up calls follow from.
+    /// What generated calls follow from.
     pub seed: u64,
-    /// How many calls are made up.
+    /// How many calls are generated.
     pub calls: u64,
 }

@@ -1,6 +1,6 @@
 use crate::{
-    DEFAULT_BATCH, DEFAULT_CALLS, DEFAULT_SEED, DEFAULT_WINDOW, DEFAULT_WORKERS, MOST_BATCH,
-    MOST_CALLS, MOST_SEED, MOST_WINDOW, MOST_WORKERS, Mode, Settings, WordsFault, read_words,
+    DEFAULT_BATCH, DEFAULT_GENERATED_CALLS, DEFAULT_SEED, DEFAULT_WINDOW, DEFAULT_WORKERS,
+    MOST_BATCH, MOST_SEED, MOST_WINDOW, Mode, Settings, WordsFault, read_words,
 };
 use palm_script::DumpWhen;
 use std::alloc::{AllocError, Global};
@@ -29,6 +29,10 @@ const DEFAULTS: Settings = Settings {
     seed: 0,
     calls: 1_000,
 };
+
+fn in_mode(mode: Mode) -> Settings {
+    Settings { mode, ..DEFAULTS }
+}
 
 fn sized(workers: u32, batch: u32, window: u32) -> Settings {
     Settings {
@@ -69,6 +73,16 @@ fn words_of_the_form_set_what_they_say(rt: HostRuntime) -> Result<(), Fail> {
         ("--seed=00000000000000000001 replay", made(1, 1_000)),
         ("--calls 10000000 replay", made(0, 10_000_000)),
         ("replay --calls=0", made(0, 0)),
+        ("deck", in_mode(Mode::Deck)),
+        ("-- deck", in_mode(Mode::Deck)),
+        ("gen", in_mode(Mode::Gen)),
+        (
+            "gen --seed 7 --calls 5",
+            Settings {
+                mode: Mode::Gen,
+                ..made(7, 5)
+            },
+        ),
     ] {
         assert_eq!(rt; read(rt.alloc(), line)?, Ok(settings), "{line}");
     }
@@ -88,11 +102,15 @@ fn other_words_are_wrong_usage(rt: HostRuntime) -> Result<(), Fail> {
         "list",
         "help",
         "Replay",
+        "Deck",
+        "decks",
+        "generate",
         "--batch 4",
         "--batch 4 --",
         "replay ",
         "replay list",
         "replay replay",
+        "deck gen",
         "replay -- replay",
         "-- --batch",
         // No such option.
@@ -134,6 +152,7 @@ fn other_words_are_wrong_usage(rt: HostRuntime) -> Result<(), Fail> {
         "replay --seed 18446744073709551616",
         "replay --seed 000000000000000000001",
         "replay --calls 10000001",
+        "gen --calls 10000001",
     ] {
         assert_eq!(rt; read(rt.alloc(), line)?, Err(WordsFault::Usage), "{line}");
     }
@@ -164,16 +183,13 @@ fn words_of_1_000_letters_are_wrong_usage(rt: HostRuntime) -> Result<(), Fail> {
 
 #[test]
 fn bounds_and_defaults(rt: HostRuntime) {
-    assert_eq!(rt; (MOST_WORKERS, MOST_BATCH, MOST_WINDOW), (64, 65_536, 64));
-    assert_eq!(rt;
-        (MOST_SEED, MOST_CALLS),
-        (18_446_744_073_709_551_615, 10_000_000)
-    );
+    assert_eq!(rt; (MOST_BATCH, MOST_WINDOW), (65_536, 64));
+    assert_eq!(rt; MOST_SEED, 18_446_744_073_709_551_615);
     assert_eq!(rt;
         (DEFAULT_WORKERS, DEFAULT_BATCH, DEFAULT_WINDOW),
         (1, 4_096, 16)
     );
-    assert_eq!(rt; (DEFAULT_SEED, DEFAULT_CALLS), (0, 1_000));
+    assert_eq!(rt; (DEFAULT_SEED, DEFAULT_GENERATED_CALLS), (0, 1_000));
 }
 
 #[test]

@@ -16,6 +16,8 @@ pub fn mode_named(word: &str) -> Option<Mode>
 {
     match word {
         "replay" => Some(Mode::Replay),
+        "deck" => Some(Mode::Deck),
+        "gen" => Some(Mode::Gen),
         _ => None,
     }
 }

@@ -5,12 +5,14 @@ ghost use Rattle.palm_words.specs.Command.{set_by_matches};
 
 use crate::command::matches_in;
 use crate::settings::{
-    DEFAULT_BATCH, DEFAULT_CALLS, DEFAULT_SEED, DEFAULT_WINDOW, DEFAULT_WORKERS, MOST_BATCH,
-    MOST_CALLS, MOST_SEED, MOST_WINDOW, MOST_WORKERS, Settings,
+    DEFAULT_BATCH, DEFAULT_GENERATED_CALLS, DEFAULT_SEED, DEFAULT_WINDOW, DEFAULT_WORKERS,
+    MOST_BATCH, MOST_SEED, MOST_WINDOW, Settings,
 };
 use crate::values::{dump_in, mode_named, number_in, small_number_in};
 use clap::ArgMatches;
 use clap::error::ErrorKind;
+use palm_gen::MOST_GENERATED_CALLS;
+use palm_share::MOST_WORKERS;
 use std::alloc::Global;
 use std::error::Error;
 use std::fmt;
@@ -51,7 +53,13 @@ fn settings_in(matches: &ArgMatches) -> Option<Settings>
     let window = small_number_in(matches, "window", 1, MOST_WINDOW, DEFAULT_WINDOW)?;
     let dump = dump_in(matches)?;
     let seed = number_in(matches, "seed", 0, MOST_SEED, DEFAULT_SEED)?;
-    let calls = number_in(matches, "calls", 0, MOST_CALLS, DEFAULT_CALLS)?;
+    let calls = number_in(
+        matches,
+        "calls",
+        0,
+        MOST_GENERATED_CALLS,
+        DEFAULT_GENERATED_CALLS,
+    )?;
     Some(Settings {
         mode,
         workers,
