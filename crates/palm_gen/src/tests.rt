@@ -64,7 +64,7 @@ fn replies(rt: &impl Abort, alloc: Global) -> Result<Vec<Reply>, AllocError>
     Ok(replies)
 }
 
-// The calls were worked out by hand from the rule, by other means.
+// The calls were computed from the rule by another program.
 #[test]
 fn the_seed_0_makes_these_calls(rt: HostRuntime) -> Result<(), Fail> {
     let mut state = 0;
