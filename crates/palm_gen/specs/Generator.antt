@@ -42,7 +42,7 @@ call_by kind p b =
     else (if kind == 5 then Get p
     else (if kind == 6 then Rate (longer p 5) else Range p (longer p 9) 8)))
 
--- A generated call, its caller, and the state after it.
+-- A generated call, its caller, and the state after it. So of call 9 the caller is 1.
 pub record Generated : Type 0 where
   pub call : Call
   pub caller : ℕ

@@ -7,6 +7,7 @@ use Rattle.palm_base.specs.declared.call.Reply.TheVariants.{Value, Hit}
 -- ---- what replies were
 
 -- What contracts see of a tally: how many replies there were, how many of them were a Hit, and the sum of their rates.
+-- So after Value 5, Hit of 44 at 7 and Absent they are 3, 1 and 12.
 pub record Counts : Type 0 where
   pub calls : ℕ
   pub hits : ℕ
