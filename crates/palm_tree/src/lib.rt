@@ -4,6 +4,7 @@
 mod build;
 mod dump;
 mod list;
+mod rows;
 #[cfg(test)]
 mod tests;
 mod tree;

@@ -198,3 +198,15 @@ fn lists_ranges(rt: HostRuntime) -> Result<(), Fail> {
     assert_listed(&rt, alloc, &tree.list(&from, &to, four)?, (20, 23))?;
     Ok(())
 }
+
+#[test]
+fn gives_all_rows(rt: HostRuntime) -> Result<(), Fail> {
+    let alloc = rt.alloc();
+    assert!(rt; Tree::new(alloc)?.all_rows()?.is_empty(), "no rows");
+    for (from, to, levels) in [(10, 25, 1), (10, 43, 2), (100, 499, 3)] {
+        let tree = built(&rt, alloc, from, to)?;
+        assert_eq!(rt; tree.levels(), levels);
+        assert_listed(&rt, alloc, &tree.all_rows()?, (from, to))?;
+    }
+    Ok(())
+}
