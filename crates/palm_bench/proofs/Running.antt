@@ -8,7 +8,7 @@ use Rattle.palm_base.specs.declared.row.Row.{Row}
 use Rattle.palm_base.proofs.Every.{every_append}
 use Rattle.palm_base.proofs.Histories.{replies_to-append, table_after-append}
 use Rattle.palm_bench.specs.declared.feed.Kind.{Kind}
-use Rattle.palm_bench.specs.declared.feed.Kind.TheVariants.{Load, Sets, Edits, Gets}
+use Rattle.palm_bench.specs.declared.feed.Kind.TheVariants.{Load, Sets, Edits, Gets, Rates}
 use Rattle.palm_bench.specs.Kinds.{IsOfKind}
 use Rattle.palm_bench.specs.Runs.{with_reply, with_replies, HasRun, Leaves}
 
@@ -53,3 +53,4 @@ calls_leave kind count first loaded rows so_far sum other none load ran = by kin
     by Sets other ran = record { loaded = loaded; so_far = so_far; load = begins; run = ran }
     by Edits other ran = record { loaded = loaded; so_far = so_far; load = begins; run = ran }
     by Gets other ran = record { loaded = loaded; so_far = so_far; load = begins; run = ran }
+    by Rates other ran = record { loaded = loaded; so_far = so_far; load = begins; run = ran }

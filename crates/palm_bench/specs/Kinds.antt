@@ -4,7 +4,7 @@ use Rattle.std.specs.Str.{bytes_eq}
 use Rattle.palm_base.specs.declared.call.Call.{Call}
 use Rattle.palm_base.specs.declared.call.Call.TheVariants.{Set, Del, Get, Rate, List as Listing}
 use Rattle.palm_bench.specs.declared.feed.Kind.{Kind}
-use Rattle.palm_bench.specs.declared.feed.Kind.TheVariants.{Load, Sets, Edits, Gets}
+use Rattle.palm_bench.specs.declared.feed.Kind.TheVariants.{Load, Sets, Edits, Gets, Rates}
 
 -- The kind that a word names. So "sets" names Sets, and "set" names none.
 abbrev pub kind_named : List ℕ → Option Kind
@@ -13,6 +13,7 @@ kind_named word =
     else if bytes_eq word (codes "sets") then Some Sets
     else if bytes_eq word (codes "edits") then Some Edits
     else if bytes_eq word (codes "gets") then Some Gets
+    else if bytes_eq word (codes "rates") then Some Rates
     else None
 
 abbrev pub IsSet : Call → Type 0
@@ -36,6 +37,13 @@ IsGet (Get prefix) = Unit {0}
 IsGet (Rate number) = ⊥
 IsGet (Listing from to limit) = ⊥
 
+abbrev pub IsRate : Call → Type 0
+IsRate (Set prefix rate) = ⊥
+IsRate (Del prefix) = ⊥
+IsRate (Get prefix) = ⊥
+IsRate (Rate number) = Unit {0}
+IsRate (Listing from to limit) = ⊥
+
 -- A Set or a Del.
 abbrev pub IsEdit : Call → Type 0
 IsEdit call = IsSet call ⊎ IsDel call
@@ -46,3 +54,4 @@ IsOfKind Load call = IsSet call
 IsOfKind Sets call = IsSet call
 IsOfKind Edits call = IsEdit call
 IsOfKind Gets call = IsGet call
+IsOfKind Rates call = IsRate call

@@ -9,18 +9,19 @@ use Rattle.palm_base.specs.declared.call.Reply.{Reply}
 use Rattle.palm_base.specs.declared.call.Reply.TheVariants.{New, Was, Gone, Absent, Value, Hit, Rows}
 use Rattle.palm_base.specs.declared.row.Row.{Row}
 use Rattle.palm_bench.specs.declared.feed.Kind.{Kind}
-use Rattle.palm_bench.specs.declared.feed.Kind.TheVariants.{Load, Sets, Edits, Gets}
+use Rattle.palm_bench.specs.declared.feed.Kind.TheVariants.{Load, Sets, Edits, Gets, Rates}
 use Rattle.palm_bench.specs.Kinds.{IsOfKind}
 
--- A reply as a number: its word's, and eight times its rate. So Value 5 is 45. No run has replies to a Rate or a List.
+-- A reply as a number: its word's, and eight times its rate. So Value 5 is 45, and Hit of 44 at 5 is 46. No run has replies
+-- to a List.
 abbrev pub reply_number : Reply → ℕ
 reply_number New = 1
 reply_number (Was rate) = 2 + 8 * rate
 reply_number (Gone rate) = 3 + 8 * rate
 reply_number Absent = 4
 reply_number (Value rate) = 5 + 8 * rate
-reply_number (Hit row) = 6
-reply_number (Rows rows) = 6
+reply_number (Hit row) = 6 + 8 * row.rate
+reply_number (Rows rows) = 7
 
 -- The sum with a reply more.
 abbrev pub with_reply : ℕ → Reply → ℕ
@@ -52,6 +53,7 @@ Leaves Load count rows sum = HasRun Load count [] rows 0 sum
 Leaves Sets count rows sum = HasLoadedAndRun Sets count rows sum
 Leaves Edits count rows sum = HasLoadedAndRun Edits count rows sum
 Leaves Gets count rows sum = HasLoadedAndRun Gets count rows sum
+Leaves Rates count rows sum = HasLoadedAndRun Rates count rows sum
 
 -- What is told of a run: the rows and the levels of the lawful tree that it leaves, and the sum over its replies.
 pub record IsOutcome (kind : Kind) (count rows levels sum : ℕ) : Type 0 where

@@ -2,7 +2,7 @@
 // between them are new prefixes all over the table.
 ghost use Rattle.std.specs.Prelude.{◌≡◌, ◌<◌, ◌≤◌, length, All, false};
 ghost use Rattle.palm_base.specs.Prefix.{is_no_digit};
-ghost use Rattle.palm_bench.specs.Kinds.{IsSet, IsDel, IsGet, IsEdit, IsOfKind};
+ghost use Rattle.palm_bench.specs.Kinds.{IsSet, IsDel, IsGet, IsRate, IsEdit, IsOfKind};
 
 use palm_base::{Amount, Call, Digits};
 
@@ -23,6 +23,8 @@ pub enum Kind {
     Edits,
     /// Gets of random prefixes, loaded ones and others.
     Gets,
+    /// Rates of random numbers of twelve digits, which begin with loaded prefixes or with others.
+    Rates,
 }
 
 /// Makes the calls of a kind on a table that is loaded with as many rows.
@@ -41,15 +43,15 @@ pub struct Feed {
     ghost some: { 0 < span },
 }
 
-// The last nine digits of a number, as text. A number counted from `FIRST` has no others.
-fn nine_digits(number: u64) -> [u8; 9]
-    ensures many { length result ≡ 9 }
+// The last digits of a number, as text.
+fn last_digits<const N: usize>(number: u64) -> [u8; N]
+    ensures many { length result ≡ N }
     ensures digits { All (λ b. is_no_digit b ≡ false) result }
 {
-    let mut text = [b'0'; 9];
+    let mut text = [b'0'; N];
     let mut rest = number;
-    for place in 0..9 {
-        text[8 - place] = b'0' + (rest % 10) as u8;
+    for place in 0..N {
+        text[N - 1 - place] = b'0' + (rest % 10) as u8;
         rest /= 10;
     }
     text
@@ -59,11 +61,27 @@ fn nine_digits(number: u64) -> [u8; 9]
 fn prefix_of(number: u64) -> Digits
     ensures { length result ≡ 9 }
 {
-    let text = nine_digits(number.wrapping_add(FIRST));
+    let text = last_digits::<9>(number.wrapping_add(FIRST));
     let Ok(prefix) = Digits::read(&text) else {
         unreachable!()
     };
     prefix
+}
+
+// A dialled number of twelve digits: the prefix of nine that is a number counted from `FIRST`, and three digits more.
+fn dialled(number: u64) -> Digits
+    ensures { length result ≡ 12 }
+{
+    let text = last_digits::<12>(
+        number
+            .wrapping_add(FIRST)
+            .wrapping_mul(1_000)
+            .wrapping_add(555),
+    );
+    let Ok(number) = Digits::read(&text) else {
+        unreachable!()
+    };
+    number
 }
 
 fn set(number: u64, rate: u64) -> Call
@@ -91,6 +109,14 @@ fn get(number: u64) -> Call
 {
     Call::Get {
         prefix: prefix_of(number),
+    }
+}
+
+fn rate(number: u64) -> Call
+    ensures { IsRate result }
+{
+    Call::Rate {
+        number: dialled(number),
     }
 }
 
@@ -149,6 +175,7 @@ impl Feed {
             Kind::Sets => set(self.draw(), turn),
             Kind::Edits => self.edit(turn),
             Kind::Gets => get(self.draw()),
+            Kind::Rates => rate(self.draw()),
         }
     }
 }

@@ -38,7 +38,8 @@ fn number_of(reply: &Reply) -> u64
         Reply::Gone(rate) => 3 + 8 * rate.get(),
         Reply::Absent => 4,
         Reply::Value(rate) => 5 + 8 * rate.get(),
-        Reply::Hit(_) | Reply::Rows(_) => 6,
+        Reply::Hit(row) => 6 + 8 * row.rate.get(),
+        Reply::Rows(_) => 7,
     }
 }
 

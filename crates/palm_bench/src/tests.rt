@@ -37,6 +37,7 @@ fn every_cutting_gives_the_replies_of_an_ordinary_map(rt: HostRuntime) -> Result
         ("sets", 413, 0xb336_4e00_4587_eb83),
         ("edits", 300, 0xe486_6efa_23d6_0116),
         ("gets", 300, 0x7629_f06c_0ca1_2a08),
+        ("rates", 300, 0x9b95_566b_2af4_e9c0),
     ];
     for (kind, rows, sum) in cases {
         for (batch, workers) in [("1", "1"), ("7", "3"), ("64", "1"), ("300", "64")] {

@@ -17,6 +17,7 @@ fn read_kind(word: &str) -> Option<Kind>
         "sets" => Some(Kind::Sets),
         "edits" => Some(Kind::Edits),
         "gets" => Some(Kind::Gets),
+        "rates" => Some(Kind::Rates),
         _ => None,
     }
 }
