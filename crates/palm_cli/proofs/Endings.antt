@@ -9,7 +9,7 @@ use Rattle.palm_script.specs.Script.{Outcome, Says, entries_from}
 use Rattle.palm_script.specs.declared.script.Script.{Script}
 use Rattle.palm_words.specs.declared.settings.Settings.{Settings}
 use Rattle.palm_base.specs.declared.call.Entry.{Entry}
-use Rattle.palm_cli.specs.Ends.{run_of, tree_said}
+use Rattle.palm_cli.specs.Scripts.{run_of, tree_said}
 use Rattle.palm_script.specs.declared.dump.DumpWhen.{DumpWhen}
 use Rattle.palm_cli.specs.Costs.{sections_cost, run_cost}
 use Rattle.palm_cli.specs.Streams.{AppendsFront, text_to}

@@ -1,7 +1,10 @@
 mod Batches
+mod DeckEnds
 mod Endings
 mod Fronts
+mod GeneratedCalls
 mod Outcomes
 mod Sections
 mod Statuses
 mod Stopped
+mod Wholes

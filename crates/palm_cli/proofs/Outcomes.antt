@@ -1,5 +1,5 @@
 -- How the run of a script ends, by how far it was read and whether it has a faulty line.
-use Rattle.std.proofs.Common.{◌≡◌, ℕ, ◌+◌, ◌-◌, ◌<◌, ◌≤◌, ◌⊎◌, Bool, inl, inr, true, false, List, [], ◌++◌, length, take, drop, Option, Some, None, refl, sym, ap, subst, ◌∙◌, append_assoc, arith}
+use Rattle.std.proofs.Common.{◌≡◌, ℕ, ◌+◌, ◌-◌, ◌<◌, ◌≤◌, ◌⊎◌, Bool, inl, inr, true, false, List, ◌++◌, length, take, Option, Some, None, refl, sym, ap, subst, ◌∙◌, append_assoc, arith}
 use Rattle.std.specs.Prelude.{◌&&◌, IfSome, IsSome, is_none}
 use Rattle.std.specs.Io.KnownBytes.{Appends, Consumes, IsAtEnd}
 use Rattle.std.proofs.lemmas.List.{append-nil, length-append, take-append-le, take_all}
@@ -13,13 +13,16 @@ use Rattle.palm_script.specs.Causes.{Rose}
 use Rattle.palm_script.specs.Input.{IsRead, is_whole}
 use Rattle.palm_script.specs.Laws.{FaultsStand}
 use Rattle.palm_script.specs.Script.{Outcome, script_of}
+use Rattle.palm_words.specs.declared.settings.Mode.TheVariants.{Replay}
 use Rattle.palm_words.specs.declared.settings.Settings.{Settings}
-use Rattle.palm_cli.specs.Ends.{Outside, EndsAs, IsGood, IsBad, IsLong, IsCutShort, run_of, tree_said, text_said, final_said}
+use Rattle.palm_cli.specs.Ends.{Outside, EndsIn}
+use Rattle.palm_cli.specs.Scripts.{IsGoodScript, IsBadScript, IsLongScript, IsCutScript, run_of, tree_said, text_said, final_said}
 use Rattle.palm_cli.specs.Costs.{run_cost}
 use Rattle.palm_cli.specs.Stops.{ended_by}
 use Rattle.palm_cli.specs.Streams.{text_to}
 use Rattle.palm_cli.proofs.Fronts.{front_whole}
 use Rattle.palm_cli.proofs.Stopped.{stopped}
+use Rattle.palm_cli.proofs.Wholes.{where_whole}
 
 -- What was run of what a script says, and what it left.
 pub record Ran (settings : Settings) (outcome : Outcome) (ends : Bool) (old new : Option (List ℕ)) (after : Tree) : Type 0 where
@@ -38,20 +41,17 @@ tree_of_same settings outcome other after same tree = tree ∙ ap (tree_said set
 -- The source was read to its end.
 pub good_script : (settings : Settings) (left rest : Option (List ℕ)) (before now : ℕ) (bytes : List ℕ) (end : InputEnd) (outcome : Outcome) (ends : Bool) (old new : Option (List ℕ)) (after : Tree)
     → end ≡ Whole → IsRead left rest before now bytes end → length bytes ≤ MOST_BYTES → script_of bytes (is_whole end) ≡ outcome → outcome.fault ≡ None → ends ≡ is_whole end && is_none outcome.fault
-    → Ran settings outcome ends old new after → IfSome left (λ b. IsGood settings b old new after) × IsAtEnd rest × (now ≡ before)
-good_script settings None rest before now bytes Whole outcome ends old new after end read most same none ends-is ran = (tt, read.1, read.2)
-good_script settings (Some b) None before now bytes Whole outcome ends old new after end read most same none ends-is ran = absurd read.0
-good_script settings (Some b) (Some r) before now bytes Whole outcome ends old new after end read most same none ends-is ran =
-    let whole : b ≡ bytes = read.0 ∙ ap (λ (l : List ℕ). bytes ++ l) read.1 ∙ append-nil bytes in
-    let all : script_of b true ≡ outcome = ap (λ (l : List ℕ). script_of l true) whole ∙ same in
+    → Ran settings outcome ends old new after → IfSome left (λ b. IsGoodScript settings b old new after) × IsAtEnd rest × (now ≡ before)
+good_script settings left rest before now bytes Whole outcome ends old new after end read most same none ends-is ran =
     let finished : ends ≡ true = ends-is ∙ ap is_none none in
     let text : Appends old new (final_said settings outcome) = subst (λ (e : Bool). Appends old new (text_to settings.dump e (run_of settings outcome))) finished ran.text in (
-      record {
-        size = rw whole most;
-        good = ap (λ (o : Outcome). o.fault) all ∙ none;
-        text = subst (λ (o : Outcome). Appends old new (final_said settings o)) (sym all) text;
-        tree = tree_of_same settings outcome (script_of b true) after all ran.tree;
-      },
+      where_whole (λ (b : List ℕ). IsGoodScript settings b old new after) left rest bytes read.0 read.1
+          (record {
+            size = most;
+            good = ap (λ (o : Outcome). o.fault) same ∙ none;
+            text = subst (λ (o : Outcome). Appends old new (final_said settings o)) (sym same) text;
+            tree = tree_of_same settings outcome (script_of bytes true) after same ran.tree;
+          }),
       read.1,
       read.2,
     )
@@ -61,7 +61,7 @@ good_script settings left rest before now bytes Long outcome ends old new after 
 -- The source failed.
 pub cut_script : (settings : Settings) (left rest : Option (List ℕ)) (before now : ℕ) (bytes : List ℕ) (end : InputEnd) (outcome : Outcome) (ends : Bool) (old new : Option (List ℕ)) (after : Tree)
     → end ≡ Failed → IsRead left rest before now bytes end → script_of bytes (is_whole end) ≡ outcome → outcome.fault ≡ None → ends ≡ is_whole end && is_none outcome.fault
-    → Ran settings outcome ends old new after → Rose before now × ((read : List ℕ) × Consumes left rest read × IsCutShort settings read old new after)
+    → Ran settings outcome ends old new after → Rose before now × ((read : List ℕ) × Consumes left rest read × IsCutScript settings read old new after)
 cut_script settings left rest before now bytes Failed outcome ends old new after end read same none ends-is ran = (
   read.1,
   (
@@ -89,7 +89,7 @@ longer most b bytes more rest is size one =
 -- The source has a byte too many.
 pub long_script : (settings : Settings) (left rest : Option (List ℕ)) (before now : ℕ) (bytes : List ℕ) (end : InputEnd) (outcome : Outcome) (ends : Bool) (old new : Option (List ℕ)) (after : Tree)
     → end ≡ Long → IsRead left rest before now bytes end → length bytes ≤ MOST_BYTES → script_of bytes (is_whole end) ≡ outcome → outcome.fault ≡ None → ends ≡ is_whole end && is_none outcome.fault
-    → Ran settings outcome ends old new after → IfSome left (λ b. IsLong settings b old new after)
+    → Ran settings outcome ends old new after → IfSome left (λ b. IsLongScript settings b old new after)
 long_script settings None rest before now bytes Long outcome ends old new after end read most same none ends-is ran = tt
 long_script settings (Some b) None before now bytes Long outcome ends old new after end read most same none ends-is ran = absurd read.1
 long_script settings (Some b) (Some r) before now bytes Long outcome ends old new after end read most same none ends-is ran =
@@ -111,7 +111,7 @@ take_past n b xs ys e h =
     ap (take n) e ∙ ap (λ (m : ℕ). take m (xs ++ ys)) k ∙ take-append-add xs ys (n - length xs)
 
 found : (settings : Settings) (b : List ℕ) (outcome : Outcome) (fault : LineFault) (old new : Option (List ℕ)) (after : Tree) → script_of b true ≡ outcome → outcome.fault ≡ Some fault
-    → (length b ≤ MOST_BYTES) ⊎ ((script_of (take MOST_BYTES b) false).fault ≡ Some fault) → Appends old new (text_said settings outcome) → after ≡ tree_said settings outcome → IsBad settings b fault old new after
+    → (length b ≤ MOST_BYTES) ⊎ ((script_of (take MOST_BYTES b) false).fault ≡ Some fault) → Appends old new (text_said settings outcome) → after ≡ tree_said settings outcome → IsBadScript settings b fault old new after
 found settings b outcome fault old new after same first ended text tree = record {
   first = ap (λ (o : Outcome). o.fault) same ∙ first;
   ended = ended;
@@ -122,7 +122,7 @@ found settings b outcome fault old new after same first ended text tree = record
 -- The faulty line that was read is the script's first, whatever was left unread.
 pub bad_script : FaultsStand → (settings : Settings) (left rest : Option (List ℕ)) (before now : ℕ) (bytes : List ℕ) (end : InputEnd) (outcome : Outcome) (ends : Bool) (fault : LineFault) (old new : Option (List ℕ)) (after : Tree)
     → IsRead left rest before now bytes end → length bytes ≤ MOST_BYTES → script_of bytes (is_whole end) ≡ outcome → outcome.fault ≡ Some fault → ends ≡ is_whole end && is_none outcome.fault
-    → Ran settings outcome ends old new after → IfSome left (λ b. IsBad settings b fault old new after)
+    → Ran settings outcome ends old new after → IfSome left (λ b. IsBadScript settings b fault old new after)
 bad_script stands settings None rest before now bytes end outcome ends fault old new after read most same first ends-is ran = tt
 bad_script stands settings (Some b) None before now bytes Whole outcome ends fault old new after read most same first ends-is ran = absurd read.0
 bad_script stands settings (Some b) None before now bytes Failed outcome ends fault old new after read most same first ends-is ran = absurd read.0
@@ -151,23 +151,22 @@ bad_script stands settings (Some b) (Some r) before now bytes Long outcome ends 
 -- No more steps were counted than the batches of the whole script may take.
 few_steps : (settings : Settings) (left rest : Option (List ℕ)) (before now : ℕ) (bytes : List ℕ) (outcome : Outcome) (s0 s1 : ℕ) → IsRead left rest before now bytes Whole → script_of bytes true ≡ outcome
     → s1 ≤ s0 + run_cost (run_of settings outcome) → IfSome left (λ b. s1 ≤ s0 + run_cost (run_of settings (script_of b true)))
-few_steps settings None rest before now bytes outcome s0 s1 read same few = tt
-few_steps settings (Some b) None before now bytes outcome s0 s1 read same few = absurd read.0
-few_steps settings (Some b) (Some r) before now bytes outcome s0 s1 read same few =
-    let whole : b ≡ bytes = read.0 ∙ ap (λ (l : List ℕ). bytes ++ l) read.1 ∙ append-nil bytes in
-    subst (λ (o : Outcome). s1 ≤ s0 + run_cost (run_of settings o)) (sym (ap (λ (l : List ℕ). script_of l true) whole ∙ same)) few
+few_steps settings left rest before now bytes outcome s0 s1 read same few =
+    where_whole (λ (b : List ℕ). s1 ≤ s0 + run_cost (run_of settings (script_of b true))) left rest bytes read.0 read.1
+    (subst (λ (o : Outcome). s1 ≤ s0 + run_cost (run_of settings o)) (sym same) few)
 
 -- Where all was run that was read of a script.
 pub run_ends : FaultsStand → (settings : Settings) (o : Outside) (bytes : List ℕ) (end : InputEnd) (outcome : Outcome) (ends : Bool) (after : Tree)
     → IsRead o.left o.rest o.reads_before o.reads_now bytes end → length bytes ≤ MOST_BYTES → script_of bytes (is_whole end) ≡ outcome → ends ≡ is_whole end && is_none outcome.fault
-    → Ran settings outcome ends o.taken o.now after → o.writes_now ≡ o.writes_before → o.steps_now ≤ o.steps_before + run_cost (run_of settings outcome) → (fault : Option LineFault) → outcome.fault ≡ fault → EndsAs settings (ended_by fault end) o after
+    → Ran settings outcome ends o.taken o.now after → o.writes_now ≡ o.writes_before → o.steps_now ≤ o.steps_before + run_cost (run_of settings outcome) → (fault : Option LineFault) → outcome.fault ≡ fault → EndsIn Replay settings (ended_by fault end) o after
 run_ends stands settings o bytes end outcome ends after read most same ends-is ran kept few (Some fault) is = (
+  refl,
   bad_script stands settings o.left o.rest o.reads_before o.reads_now bytes end outcome ends fault o.taken o.now after read most same is ends-is ran,
   stopped settings o.left o.rest o.taken o.now o.reads_before o.reads_now bytes end outcome ends read most same ends-is (front_whole o.taken o.now (text_to settings.dump ends (run_of settings outcome)) ran.text),
 )
 run_ends stands settings o bytes Whole outcome ends after read most same ends-is ran kept few None is =
     let good = good_script settings o.left o.rest o.reads_before o.reads_now bytes Whole outcome ends o.taken o.now after refl read most same is ends-is ran in
-    (good.0, good.1, good.2, kept, few_steps settings o.left o.rest o.reads_before o.reads_now bytes outcome o.steps_before o.steps_now read same few)
+    (good.0, λ reads. good.1, good.2, kept, few_steps settings o.left o.rest o.reads_before o.reads_now bytes outcome o.steps_before o.steps_now read same few)
 run_ends stands settings o bytes Failed outcome ends after read most same ends-is ran kept few None is =
     cut_script settings o.left o.rest o.reads_before o.reads_now bytes Failed outcome ends o.taken o.now after refl read same is ends-is ran
 run_ends stands settings o bytes Long outcome ends after read most same ends-is ran kept few None is =

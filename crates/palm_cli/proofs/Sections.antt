@@ -1,5 +1,5 @@
 -- A section more was run: what is left of a run.
-use Rattle.std.proofs.Common.{◌≡◌, ℕ, ◌+◌, List, [], ◌∷◌, ◌++◌, length, take, drop, refl, sym, ap, ◌∙◌, append_assoc}
+use Rattle.std.proofs.Common.{◌≡◌, ℕ, ◌+◌, List, ◌∷◌, ◌++◌, length, take, drop, sym, ap, ◌∙◌, append_assoc}
 use Rattle.palm_base.specs.History.{table_after}
 use Rattle.palm_base.specs.Pass.{tree_after}
 use Rattle.palm_base.specs.Tree.{Tree, rows_of}
@@ -9,13 +9,6 @@ use Rattle.palm_script.specs.Transcript.{Progress, Section, come_to, section_by,
 use Rattle.palm_script.specs.declared.dump.DumpWhen.{DumpWhen}
 use Rattle.palm_script.specs.declared.script.SectionEnd.{SectionEnd}
 use Rattle.palm_cli.specs.Costs.{batches_cost, sections_cost}
-
--- how far a tree and a table have come that were left by the calls of a section
-pub came_on : (n : ℕ) (old new : Tree) (section : Section) → new ≡ tree_after old section.history section.cutting → rows_of new ≡ table_after (rows_of old) section.history
-    → after_section (come_to n old) section ≡ come_to (n + length section.history) new
-came_on n old new section tree rows =
-    ap (λ (t : Tree). record { calls = n + length section.history; rows = table_after (rows_of old) section.history; tree = t }) (sym tree)
-    ∙ ap (λ (table : List Row). record { calls = n + length section.history; rows = table; tree = new }) (sym rows)
 
 -- A section more was written: with the text of the others it is still the whole.
 pub section_written : (dump : DumpWhen) (at next : Progress) (section : Section) (others : List Section) (w all : List ℕ)

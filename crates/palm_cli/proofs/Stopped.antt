@@ -1,16 +1,20 @@
 -- A run that stopped, by how far its script was read.
-use Rattle.std.proofs.Common.{◌≡◌, ℕ, ◌≤◌, Bool, true, false, cond, inl, inr, List, [], ◌++◌, length, take, Option, Some, None, refl, sym, ap, subst, ◌∙◌, arith}
+use Rattle.std.proofs.Common.{◌≡◌, ℕ, ◌≤◌, Bool, true, false, cond, inl, inr, List, ◌++◌, length, take, Option, Some, None, sym, ap, subst, ◌∙◌, arith}
 use Rattle.std.specs.Prelude.{◌&&◌, is_none, is_some}
-use Rattle.std.specs.Io.KnownBytes.{Appends, Consumes}
+use Rattle.std.specs.Io.KnownBytes.{Consumes}
+use Rattle.std.proofs.KnownBytes.{Appends-nil}
 use Rattle.std.proofs.lemmas.List.{take-append-le, take_all}
 use Rattle.palm_script.specs.Input.{IsRead, is_whole}
 use Rattle.palm_script.specs.Script.{Outcome, script_of}
-use Rattle.palm_script.specs.Transcript.{Section}
 use Rattle.palm_script.specs.declared.input.TheConstants.{MOST_BYTES}
 use Rattle.palm_script.specs.declared.input.InputEnd.{InputEnd}
 use Rattle.palm_script.specs.declared.input.InputEnd.TheVariants.{Whole, Failed, Long}
+use Rattle.palm_words.specs.declared.settings.Mode.{Mode}
+use Rattle.palm_words.specs.declared.settings.Mode.TheVariants.{Replay, Deck, Gen}
 use Rattle.palm_words.specs.declared.settings.Settings.{Settings}
-use Rattle.palm_cli.specs.Ends.{run_of, text_said, final_said, all_said, IsStopped}
+use Rattle.palm_cli.specs.Ends.{IsStopped}
+use Rattle.palm_cli.specs.Generated.{summary_said}
+use Rattle.palm_cli.specs.Scripts.{run_of, text_said, final_said, all_said, IsStoppedScript}
 use Rattle.palm_cli.specs.Streams.{AppendsFront, text_to}
 use Rattle.palm_cli.proofs.Fronts.{front_none}
 
@@ -31,7 +35,7 @@ all_front settings outcome old new took =
 pub stopped : (settings : Settings) (left rest old new : Option (List ℕ)) (before now : ℕ) (bytes : List ℕ) (end : InputEnd) (outcome : Outcome) (ends : Bool)
     → IsRead left rest before now bytes end → length bytes ≤ MOST_BYTES → script_of bytes (is_whole end) ≡ outcome → ends ≡ is_whole end && is_none outcome.fault
     → AppendsFront old new (text_to settings.dump ends (run_of settings outcome))
-    → (read : List ℕ) × Consumes left rest read × IsStopped settings read rest old new
+    → (read : List ℕ) × Consumes left rest read × IsStoppedScript settings read rest old new
 stopped settings left rest old new before now bytes Whole outcome ends read most same ends-is took = (
   bytes,
   read.0,
@@ -50,5 +54,7 @@ stopped settings left rest old new before now bytes Long outcome ends read most 
     (bytes ++ read.0, read.1, inl (subst (λ (o : Outcome). AppendsFront old new (text_said settings o)) (sym all) (subst (λ (e : Bool). AppendsFront old new (text_to settings.dump e (run_of settings outcome))) ends-is took)))
 
 -- Nothing was taken.
-pub stopped_at_once : (settings : Settings) (left rest old : Option (List ℕ)) → (read : List ℕ) × Consumes left rest read → (read : List ℕ) × Consumes left rest read × IsStopped settings read rest old old
-stopped_at_once settings left rest old read = (read.0, read.1, inl (front_none old (text_said settings (script_of (take MOST_BYTES read.0) false))))
+pub stopped_at_once : (mode : Mode) (settings : Settings) (read : List ℕ) (rest old : Option (List ℕ)) → IsStopped mode settings read rest old old
+stopped_at_once Replay settings read rest old = inl (front_none old (text_said settings (script_of (take MOST_BYTES read) false)))
+stopped_at_once Deck settings read rest old = inl (Appends-nil old)
+stopped_at_once Gen settings read rest old = front_none old (summary_said settings)

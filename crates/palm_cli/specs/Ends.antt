@@ -1,80 +1,68 @@
--- How a run of the program ends: what was read, what was written, and what is told.
-use Rattle.std.specs.Prelude.{◌≡◌, ℕ, ◌+◌, ◌-◌, ◌^◌, ◌<◌, ◌≤◌, ◌⊎◌, Bool, true, false, List, [], ◌++◌, length, take, codes, IfSome, is_some, if◌then◌else◌, Some, None, Option}
-use Rattle.std.specs.Io.KnownBytes.{Appends, Consumes, IsAtEnd}
+-- How a run of the program ends, by its mode and its status: what was read, what was written, and the tree that is left.
+use Rattle.std.specs.Prelude.{◌≡◌, ℕ, ◌+◌, ◌<◌, ◌≤◌, ◌⊎◌, Bool, true, false, List, length, IfSome, IfOk, Some, None, Option}
+use Rattle.std.specs.Io.KnownBytes.{Consumes, IsAtEnd}
 use Rattle.palm_base.specs.Tree.{Tree}
+use Rattle.palm_deck.specs.Deck.{deck_of}
 use Rattle.palm_script.specs.Causes.{Rose}
-use Rattle.palm_script.specs.Line.{fault_text}
-use Rattle.palm_script.specs.Script.{Outcome, script_of}
-use Rattle.palm_script.specs.Transcript.{Section, straight, after_run, text_of, final_of}
+use Rattle.palm_script.specs.Script.{script_of}
 use Rattle.palm_script.specs.declared.input.TheConstants.{MOST_BYTES}
-use Rattle.palm_script.specs.declared.line.LineFault.{LineFault}
+use Rattle.palm_words.specs.declared.settings.Mode.{Mode}
+use Rattle.palm_words.specs.declared.settings.Mode.TheVariants.{Replay, Deck, Gen}
 use Rattle.palm_words.specs.declared.settings.Settings.{Settings}
 use Rattle.palm_cli.specs.Costs.{run_cost}
-use Rattle.palm_cli.specs.Streams.{AppendsFront, Told}
+use Rattle.palm_cli.specs.Decks.{IsGoodDeck, IsBadDeck, IsStoppedDeck}
+use Rattle.palm_cli.specs.Generated.{IsSummed, history_said, summary_said}
+use Rattle.palm_cli.specs.Scripts.{run_of, IsGoodScript, IsBadScript, IsLongScript, IsCutScript, IsStoppedScript}
+use Rattle.palm_cli.specs.Streams.{AppendsFront}
+use Rattle.palm_cli.specs.Tables.{cost_left}
 use Rattle.palm_cli.specs.declared.status.Status.{Status}
-use Rattle.palm_cli.specs.declared.status.Status.TheVariants.{Done, Usage, Bad, ReadFault, WriteFault, NoMemory, TooLong}
+use Rattle.palm_cli.specs.declared.status.Status.TheVariants.{Done, Usage, BadLine, ReadFault, WriteFault, NoMemory, TooLong, BadRow}
 
--- ---- what a script says, by the settings
+-- ---- by the mode
 
--- Its run: its calls in the order of their lines, in batches of as many as the settings say.
-abbrev pub run_of : Settings → Outcome → List Section
-run_of settings outcome = straight outcome.items settings.batch
+-- `gen` alone reads nothing.
+abbrev pub reads : Mode → Bool
+reads Replay = true
+reads Deck = true
+reads Gen = false
 
--- The tree that its run leaves of the empty one. So after one Set it is a leaf of one row.
-abbrev pub tree_said : Settings → Outcome → Tree
-tree_said settings outcome = (after_run (run_of settings outcome)).tree
+-- All went well. A source that was read had the bytes `left`, of which it may not tell.
+abbrev pub IsDone : Mode → Settings → (left old new : Option (List ℕ)) → Tree → Type 0
+IsDone Replay settings left old new after = IfSome left (λ b. IsGoodScript settings b old new after)
+IsDone Deck settings left old new after = IfSome left (λ b. IsGoodDeck settings.batch b old new after)
+IsDone Gen settings left old new after = IsSummed settings old new after
 
--- The transcript of its run, without what stands at the end.
-abbrev pub text_said : Settings → Outcome → List ℕ
-text_said settings outcome = text_of settings.dump (run_of settings outcome)
+-- No more steps were counted than all batches together may take.
+abbrev pub TookFew : Mode → Settings → (left : Option (List ℕ)) → (before now : ℕ) → Type 0
+TookFew Replay settings left before now = IfSome left (λ b. now ≤ before + run_cost (run_of settings (script_of b true)))
+TookFew Deck settings left before now = IfSome left (λ b. IfOk (deck_of b) (λ edits. now ≤ before + cost_left settings.batch edits))
+TookFew Gen settings left before now = now ≤ before + cost_left settings.batch (history_said settings)
 
--- The transcript of its run, with what stands at the end.
-abbrev pub final_said : Settings → Outcome → List ℕ
-final_said settings outcome = final_of settings.dump (run_of settings outcome)
+-- The source failed after these bytes were read. In `deck` nothing is written then.
+abbrev pub IsCutShort : Mode → Settings → (read : List ℕ) (old new : Option (List ℕ)) → Tree → Type 0
+IsCutShort Replay settings read old new after = IsCutScript settings read old new after
+IsCutShort Deck settings read old new after = new ≡ old
+IsCutShort Gen settings read old new after = ⊥
 
--- The transcript that it has in all: what stands at the end is there where no line has a fault.
-abbrev pub all_said : Settings → Outcome → List ℕ
-all_said settings outcome = if is_some outcome.fault then text_said settings outcome else final_said settings outcome
+-- The source has more bytes than are taken. In `deck` nothing is written then.
+abbrev pub IsLong : Mode → Settings → (left old new : Option (List ℕ)) → Tree → Type 0
+IsLong Replay settings left old new after = IfSome left (λ b. IsLongScript settings b old new after)
+IsLong Deck settings left old new after = IfSome left (λ b. MOST_BYTES < length b) × (new ≡ old)
+IsLong Gen settings left old new after = ⊥
 
--- ---- the ends
+-- The run stopped before its end, after these bytes were read: what was taken begins what all would give.
+abbrev pub IsStopped : Mode → Settings → (read : List ℕ) (rest old new : Option (List ℕ)) → Type 0
+IsStopped Replay settings read rest old new = IsStoppedScript settings read rest old new
+IsStopped Deck settings read rest old new = IsStoppedDeck read rest old new
+IsStopped Gen settings read rest old new = AppendsFront old new (summary_said settings)
 
--- The script b is good, and all of its transcript was taken. The tree is the one after the script's run.
-pub record IsGood (settings : Settings) (b : List ℕ) (old new : Option (List ℕ)) (after : Tree) : Type 0 where
-  pub size : length b ≤ MOST_BYTES
-  pub good : (script_of b true).fault ≡ None
-  pub text : Appends old new (final_said settings (script_of b true))
-  pub tree : after ≡ tree_said settings (script_of b true)
+-- A mode's statuses where nothing failed. `gen` has no bad input.
+abbrev pub EndsUnfailed : Mode → ℕ → Type 0
+EndsUnfailed Replay code = (code ≡ 0) ⊎ (code ≡ 3) ⊎ (code ≡ 6) ⊎ (code ≡ 7)
+EndsUnfailed Deck code = (code ≡ 0) ⊎ (code ≡ 6) ⊎ (code ≡ 7) ⊎ (code ≡ 8)
+EndsUnfailed Gen code = (code ≡ 0) ⊎ (code ≡ 6)
 
--- This is the first faulty line of the script b. It ended within the bytes that are taken, or where the script is no
--- longer than these, at its end. The transcript of the lines before it was taken, and the tree is the one after them.
-pub record IsBad (settings : Settings) (b : List ℕ) (fault : LineFault) (old new : Option (List ℕ)) (after : Tree) : Type 0 where
-  pub first : (script_of b true).fault ≡ Some fault
-  pub ended : (length b ≤ MOST_BYTES) ⊎ ((script_of (take MOST_BYTES b) false).fault ≡ Some fault)
-  pub text : Appends old new (text_said settings (script_of b true))
-  pub tree : after ≡ tree_said settings (script_of b true)
-
--- The script b has more bytes than are taken, and no faulty line that ended within them. The transcript of the lines
--- that did was taken, and the tree is the one after them.
-pub record IsLong (settings : Settings) (b : List ℕ) (old new : Option (List ℕ)) (after : Tree) : Type 0 where
-  pub size : MOST_BYTES < length b
-  pub good : (script_of (take MOST_BYTES b) false).fault ≡ None
-  pub text : Appends old new (text_said settings (script_of (take MOST_BYTES b) false))
-  pub tree : after ≡ tree_said settings (script_of (take MOST_BYTES b) false)
-
--- The source failed after these bytes were read, in which no faulty line ended. The transcript of the lines that ended in
--- them was taken, and the tree is the one after them.
-pub record IsCutShort (settings : Settings) (read : List ℕ) (old new : Option (List ℕ)) (after : Tree) : Type 0 where
-  pub good : (script_of read false).fault ≡ None
-  pub text : Appends old new (text_said settings (script_of read false))
-  pub tree : after ≡ tree_said settings (script_of read false)
-
--- The run stopped before its end, after these bytes were read and where the source now has `rest`. What was taken begins the
--- transcript of the lines that had ended in them, as far as they are taken, or where they are all of a source that isn't too
--- long, the transcript of their script.
-abbrev pub IsStopped : Settings → (read : List ℕ) (rest old new : Option (List ℕ)) → Type 0
-IsStopped settings read rest old new =
-    AppendsFront old new (text_said settings (script_of (take MOST_BYTES read) false))
-    ⊎ (IsAtEnd rest × (length read ≤ MOST_BYTES) × AppendsFront old new (all_said settings (script_of read true)))
+-- ---- by the status
 
 -- What surrounds a run: the bytes that its source had left before and has now, those that its sink had taken before and has
 -- now, where they are told, the counts of faults of both, before and now, and how many steps were counted.
@@ -91,21 +79,32 @@ pub record Outside : Type 0 where
   pub steps_now : ℕ
 
 -- The run stopped after some bytes were read.
-abbrev pub HasStopped : Settings → Outside → Type 0
-HasStopped settings o = (read : List ℕ) × Consumes o.left o.rest read × IsStopped settings read o.rest o.taken o.now
+abbrev pub HasStopped : Mode → Settings → Outside → Type 0
+HasStopped mode settings o = (read : List ℕ) × Consumes o.left o.rest read × IsStopped mode settings read o.rest o.taken o.now
 
--- What a run of a script says of its end, where it leaves this tree.
+-- The source was read to its end, where the mode reads it at all.
+abbrev pub IsReadWhole : Mode → (rest : Option (List ℕ)) → Type 0
+IsReadWhole mode rest = reads mode ≡ true → IsAtEnd rest
+
+-- What a run in a mode says of its end, where it leaves this tree.
+abbrev pub EndsIn : Mode → Settings → Status → Outside → Tree → Type 0
+EndsIn mode settings Done o after =
+    IsDone mode settings o.left o.taken o.now after × IsReadWhole mode o.rest × (o.reads_now ≡ o.reads_before) × (o.writes_now ≡ o.writes_before)
+    × TookFew mode settings o.left o.steps_before o.steps_now
+EndsIn mode settings Usage o after = ⊥
+EndsIn mode settings (BadLine fault) o after =
+    (mode ≡ Replay) × IfSome o.left (λ b. IsBadScript settings b fault o.taken o.now after) × HasStopped mode settings o
+EndsIn mode settings ReadFault o after =
+    Rose o.reads_before o.reads_now × ((read : List ℕ) × Consumes o.left o.rest read × IsCutShort mode settings read o.taken o.now after)
+EndsIn mode settings WriteFault o after = Rose o.writes_before o.writes_now × HasStopped mode settings o
+EndsIn mode settings NoMemory o after = HasStopped mode settings o
+EndsIn mode settings TooLong o after = IsLong mode settings o.left o.taken o.now after
+EndsIn mode settings (BadRow row why) o after =
+    (mode ≡ Deck) × IfSome o.left (λ b. IsBadDeck b row why) × HasStopped mode settings o
+
+-- The same in the mode of the settings.
 abbrev pub EndsAs : Settings → Status → Outside → Tree → Type 0
-EndsAs settings Done o after =
-    IfSome o.left (λ b. IsGood settings b o.taken o.now after) × IsAtEnd o.rest × (o.reads_now ≡ o.reads_before) × (o.writes_now ≡ o.writes_before)
-    × IfSome o.left (λ b. o.steps_now ≤ o.steps_before + run_cost (run_of settings (script_of b true)))
-EndsAs settings Usage o after = ⊥
-EndsAs settings (Bad fault) o after = IfSome o.left (λ b. IsBad settings b fault o.taken o.now after) × HasStopped settings o
-EndsAs settings ReadFault o after =
-    Rose o.reads_before o.reads_now × ((read : List ℕ) × Consumes o.left o.rest read × IsCutShort settings read o.taken o.now after)
-EndsAs settings WriteFault o after = Rose o.writes_before o.writes_now × HasStopped settings o
-EndsAs settings NoMemory o after = HasStopped settings o
-EndsAs settings TooLong o after = IfSome o.left (λ b. IsLong settings b o.taken o.now after)
+EndsAs settings status o after = EndsIn settings.mode settings status o after
 
 -- The words were refused, or memory was while they were read.
 abbrev pub IsRefused : Status → Type 0
@@ -115,29 +114,3 @@ IsRefused status = (status ≡ Usage) ⊎ (status ≡ NoMemory)
 abbrev pub HasEnded : Option Settings → Status → Outside → Tree → Type 0
 HasEnded None status o after = IsRefused status
 HasEnded (Some settings) status o after = EndsAs settings status o after
-
--- ---- what is told
-
--- The exit status.
-abbrev pub code_of : Status → ℕ
-code_of Done = 0
-code_of Usage = 2
-code_of (Bad fault) = 3
-code_of ReadFault = 4
-code_of WriteFault = 5
-code_of NoMemory = 6
-code_of TooLong = 7
-
--- The line of a faulty line, as "palm: line 2 fault 2".
-abbrev pub fault_line : LineFault → List ℕ
-fault_line fault = codes "palm: " ++ (fault_text fault ++ codes "\n")
-
--- The line on the error stream, which is empty where all went well.
-abbrev pub status_text : Status → List ℕ
-status_text Done = []
-status_text Usage = codes "palm: usage\n"
-status_text (Bad fault) = fault_line fault
-status_text ReadFault = codes "palm: read fault\n"
-status_text WriteFault = codes "palm: write fault\n"
-status_text NoMemory = codes "palm: no memory\n"
-status_text TooLong = codes "palm: input too long\n"

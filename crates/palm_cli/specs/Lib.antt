@@ -1,4 +1,10 @@
 pub mod Costs
+pub mod Decks
 pub mod Ends
+pub mod Generated
+pub mod Reads
+pub mod Scripts
+pub mod Statuses
 pub mod Stops
 pub mod Streams
+pub mod Tables

@@ -1,6 +1,14 @@
-//! The program `palm`: replays a script of calls on a rating table, and writes the transcript.
+//! The program `palm`: keeps a rating table, and replays scripts of calls on it, edits it by decks and measures it by generated
+//! calls.
 #![tactic(auto)]
 
+mod batch;
+mod deck;
+#[cfg(test)]
+mod deck_tests;
+mod generate;
+#[cfg(test)]
+mod generate_tests;
 mod palm;
 mod replay;
 mod run;

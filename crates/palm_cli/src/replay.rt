@@ -9,7 +9,8 @@ ghost use Rattle.palm_script.specs.Input.{is_whole};
 ghost use Rattle.palm_script.specs.Transcript.{after_run, sections_by};
 ghost use Rattle.palm_words.specs.Settings.{AreWithin};
 ghost use Rattle.palm_cli.specs.Costs.{run_cost};
-ghost use Rattle.palm_cli.specs.Ends.{EndsAs};
+ghost use Rattle.palm_words.specs.declared.settings.Mode.{Mode};
+ghost use Rattle.palm_cli.specs.Ends.{EndsIn};
 ghost use Rattle.palm_cli.specs.Stops.{ended_by};
 ghost use Rattle.palm_cli.specs.Streams.{AppendsFront, text_to};
 
@@ -26,20 +27,6 @@ use std::alloc::Global;
 use std::sync::ledger::Ledger;
 use std::thread::Threads;
 
-impl From<Stop> for Status {
-    ghost use Rattle.std.specs.Prelude.{◌≡◌};
-    ghost use Rattle.palm_cli.specs.Stops.{status_of};
-
-    ghost from_gives = { λ stop status. status ≡ status_of stop };
-
-    fn from(stop: Stop) -> Status {
-        match stop {
-            Stop::Memory => Status::NoMemory,
-            Stop::Write => Status::WriteFault,
-        }
-    }
-}
-
 // Whether a script is good and its source was read to its end, so that its transcript has an end too.
 fn is_finished(end: InputEnd, script: &Script) -> bool
     ensures { result ≡ (is_whole end && is_none script.now.fault) }
@@ -52,7 +39,7 @@ fn end_by(fault: Option<LineFault>, end: InputEnd) -> Status
     ensures { result ≡ ended_by fault end }
 {
     match (fault, end) {
-        (Some(fault), _) => Status::Bad(fault),
+        (Some(fault), _) => Status::BadLine(fault),
         (None, InputEnd::Whole) => Status::Done,
         (None, InputEnd::Failed) => Status::ReadFault,
         (None, InputEnd::Long) => Status::TooLong,
@@ -115,7 +102,7 @@ pub fn replay<R: Threads + Sync, S: Source, O: Sink, G: Gate + Sync, L: Ledger>(
 ) -> Status
     requires settings { AreWithin settings.now }
     requires new { tree_in engine.old.tree ≡ (zero, []) }
-    ensures end { EndsAs settings.now result (record { left = S.left src.old; rest = S.left src.new; taken = O.taken out.old; now = O.taken out.new; reads_before = S.faults src.old; reads_now = S.faults src.new; writes_before = O.faults out.old; writes_now = O.faults out.new; steps_before = steps.old; steps_now = steps.new }) (tree_in engine.new.tree) }
+    ensures end { EndsIn Mode.Replay settings.now result (record { left = S.left src.old; rest = S.left src.new; taken = O.taken out.old; now = O.taken out.new; reads_before = S.faults src.old; reads_now = S.faults src.new; writes_before = O.faults out.old; writes_now = O.faults out.new; steps_before = steps.old; steps_now = steps.new }) (tree_in engine.new.tree) }
     ensures lawful { IsLawful (tree_in engine.new.tree) }
 {
     laws::faults_stand();

@@ -14,12 +14,14 @@ ghost use Rattle.palm_cli.specs.Costs.{batches_cost, sections_cost};
 ghost use Rattle.palm_cli.specs.Streams.{AppendsFront};
 ghost use Rattle.palm_cli.specs.declared.run.Stop.TheVariants as stops;
 
-use palm_base::{Entry, NoMemory, Reply, Steps, laws};
+use crate::batch::run_batch;
+use crate::status::Status;
+use palm_base::{Entry, NoMemory, Reply, Steps};
 use palm_engine::Engine;
 use palm_script::{
     Failed, MOST_BYTES, SectionEnd, Sink, print_batch, print_end, print_reply, write_all,
 };
-use palm_share::{Gate, Who};
+use palm_share::Gate;
 use palm_tree::Tree;
 use palm_words::Settings;
 use std::sync::ledger::Ledger;
@@ -47,6 +49,20 @@ impl From<Failed> for Stop {
 
     fn from(_failed: Failed) -> Stop {
         Stop::Write
+    }
+}
+
+impl From<Stop> for Status {
+    ghost use Rattle.std.specs.Prelude.{◌≡◌};
+    ghost use Rattle.palm_cli.specs.Stops.{status_of};
+
+    ghost from_gives = { λ stop status. status ≡ status_of stop };
+
+    fn from(stop: Stop) -> Status {
+        match stop {
+            Stop::Memory => Status::NoMemory,
+            Stop::Write => Status::WriteFault,
+        }
     }
 }
 
@@ -97,11 +113,40 @@ fn replay_batch<R: Threads + Sync, G: Gate + Sync, L: Ledger>(
     ensures lawful { IsLawful (tree_in engine.new.tree) }
     ensures ticks { OnOk result (steps.new ≤ steps.old + cost_on (tree_in engine.old.tree) batch.now) }
 {
-    laws::replies_stand_in_place();
-    let replies = engine.run_list(rt, batch, settings.batch, settings.workers, gate, steps)?;
+    let replies = run_batch(rt, settings, n, engine, batch, gate, steps)?;
     print_replies(n, batch, &replies, text)?;
     print_batch(batch.len() as u32, text)?;
     print_dump(settings.dump.dumps_batches(), &engine.tree, text)
+}
+
+// Runs a batch, of which the first call has the number n, and offers the sink its text whole. `text` is room for it.
+fn write_batch<R: Threads + Sync, O: Sink, G: Gate + Sync, L: Ledger>(
+    rt: &R,
+    settings: &Settings,
+    n: u64,
+    engine: &mut Engine,
+    batch: &[Entry],
+    out: &mut O,
+    gate: &G,
+    steps: &mut Steps<L>,
+    text: &mut Vec<u8>,
+) -> Result<(), Stop>
+    requires settings { AreWithin settings.now }
+    requires most { length batch.now ≤ settings.now.batch }
+    requires fits { n + length batch.now ≤ MOST_BYTES }
+    ensures text { OnOk result (Appends (O.taken out.old) (O.taken out.new) (batch_text settings.now.dump (come_to n (tree_in engine.old.tree)) batch.now)) }
+    ensures front { OnErr result (AppendsFront (O.taken out.old) (O.taken out.new) (batch_text settings.now.dump (come_to n (tree_in engine.old.tree)) batch.now)) }
+    ensures tree { OnOk result (tree_in engine.new.tree ≡ batch_tree (tree_in engine.old.tree) (calls_of batch.now)) }
+    ensures rows { OnOk result (rows_of (tree_in engine.new.tree) ≡ table_after (rows_of (tree_in engine.old.tree)) batch.now) }
+    ensures ticks { OnOk result (steps.new ≤ steps.old + cost_on (tree_in engine.old.tree) batch.now) }
+    ensures lawful { IsLawful (tree_in engine.new.tree) }
+    ensures kept { OnOk result (O.faults out.new ≡ O.faults out.old) }
+    ensures cause { IsErrOf result Stop.Write → Rose (O.faults out.old) (O.faults out.new) }
+{
+    text.clear();
+    replay_batch(rt, settings, n, engine, batch, gate, steps, text)?;
+    write_all(out, text)?;
+    Ok(())
 }
 
 // Runs calls in batches, of which the first call has the number n, and offers the sink the text of each batch whole. `text`
@@ -134,10 +179,7 @@ fn run_batches<R: Threads + Sync, O: Sink, G: Gate + Sync, L: Ledger>(
     let mut at = n;
     while !rest.is_empty() {
         let (batch, after) = rest.split_at(rest.len().min(most));
-        gate.pass(Who::Driver, at);
-        text.clear();
-        replay_batch(rt, settings, at, engine, batch, gate, steps, text)?;
-        write_all(out, text)?;
+        write_batch(rt, settings, at, engine, batch, out, gate, steps, text)?;
         at += batch.len() as u64;
         rest = after;
     }

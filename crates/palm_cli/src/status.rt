@@ -1,20 +1,22 @@
-ghost use Rattle.std.specs.Prelude.{◌≡◌, ◌⊎◌, OnOk, OnErr, IfOk, string_bytes};
-ghost use Rattle.palm_cli.specs.Ends.{code_of, status_text, fault_line};
+//! How a run of the program ends: its status, and the line about it on the error stream.
+ghost use Rattle.std.specs.Prelude.{◌≡◌, ◌⊎◌, true, IfOk, string_bytes};
+ghost use Rattle.palm_cli.specs.Statuses.{code_of, names_fault, status_text, line_told, row_told};
 ghost use Rattle.palm_cli.specs.Streams.{Told};
 
 use palm_base::NoMemory;
-use palm_script::{Failed, LineFault, Sink, write_all};
+use palm_deck::{DeckFault, DeckWhy};
+use palm_script::{LineFault, Sink, write_all};
 use std::alloc::Global;
 
 /// How a run of the program ends.
 #[derive(Clone, Copy, Debug, PartialEq, Eq)]
 pub enum Status {
-    /// All was read, every line was good, and all was written.
+    /// All that the mode reads was read, all of it was good, and all was written.
     Done,
     /// The words aren't of the form.
     Usage,
-    /// A line has this fault.
-    Bad(LineFault),
+    /// A line of the script has this fault.
+    BadLine(LineFault),
     /// The source failed.
     ReadFault,
     /// The sink failed.
@@ -23,6 +25,8 @@ pub enum Status {
     NoMemory,
     /// The source has more bytes than are taken.
     TooLong,
+    /// The record of this number of the deck, counted from 1, has this fault.
+    BadRow { row: u64, why: DeckWhy },
 }
 
 impl Status {
@@ -33,23 +37,13 @@ impl Status {
         match self {
             Status::Done => 0,
             Status::Usage => 2,
-            Status::Bad(_) => 3,
+            Status::BadLine(_) => 3,
             Status::ReadFault => 4,
             Status::WriteFault => 5,
             Status::NoMemory => 6,
             Status::TooLong => 7,
+            Status::BadRow { .. } => 8,
         }
-    }
-}
-
-impl From<NoMemory> for Status {
-    ghost use Rattle.std.specs.Prelude.{◌≡◌};
-    ghost use Rattle.palm_cli.specs.declared.status.Status.TheVariants as statuses;
-
-    ghost from_gives = { λ _ status. status ≡ statuses.NoMemory };
-
-    fn from(_refused: NoMemory) -> Status {
-        Status::NoMemory
     }
 }
 
@@ -60,26 +54,38 @@ fn tell_line<E: Sink>(err: &mut E, line: &[u8])
     let _ = write_all(err, line);
 }
 
-fn make_fault_line(alloc: Global, fault: LineFault) -> Result<String, NoMemory>
-    ensures { IfOk result (λ line. string_bytes line ≡ fault_line fault) }
+fn make_bad_line(alloc: Global, fault: LineFault) -> Result<String, NoMemory>
+    ensures { IfOk result (λ line. string_bytes line ≡ line_told fault) }
 {
     Ok(format!(in alloc; "palm: {fault}\n")?)
 }
 
-// Writes the line of a faulty line of the script.
-fn tell_fault<E: Sink>(alloc: Global, err: &mut E, fault: LineFault) -> Result<(), NoMemory>
-    ensures ok { OnOk result (Told (E.taken err.old) (E.taken err.new) (E.faults err.old) (E.faults err.new) (fault_line fault)) }
-    ensures err { OnErr result (err.new ≡ err.old) }
+fn make_bad_row(alloc: Global, row: u64, why: DeckWhy) -> Result<String, NoMemory>
+    ensures { IfOk result (λ line. string_bytes line ≡ row_told row why) }
 {
-    let line = make_fault_line(alloc, fault)?;
+    let fault = DeckFault::Bad { row, why };
+    Ok(format!(in alloc; "palm: {fault}\n")?)
+}
+
+// Tells the line that was made for a status, or that there was no memory for it.
+fn tell_made<E: Sink>(err: &mut E, line: Result<String, NoMemory>, status: Status) -> Status
+    requires names { names_fault status ≡ true }
+    requires line { IfOk line (λ line. string_bytes line ≡ status_text status) }
+    ensures same { (result ≡ status) ⊎ ((result ≡ Status.NoMemory) × (names_fault status ≡ true)) }
+    ensures told { Told (E.taken err.old) (E.taken err.new) (E.faults err.old) (E.faults err.new) (status_text result) }
+{
+    let Ok(line) = line else {
+        tell_line(err, b"palm: no memory\n");
+        return Status::NoMemory;
+    };
     tell_line(err, line.as_bytes());
-    Ok(())
+    status
 }
 
 /// Tells the error stream how a run ended, and answers how it did. Where memory is refused for the line of a fault, the
 /// run ends for want of memory.
 pub fn tell<E: Sink>(alloc: Global, err: &mut E, status: Status) -> Status
-    ensures same { (result ≡ status) ⊎ ((result ≡ Status.NoMemory) × (code_of status ≡ 3)) }
+    ensures same { (result ≡ status) ⊎ ((result ≡ Status.NoMemory) × (names_fault status ≡ true)) }
     ensures told { Told (E.taken err.old) (E.taken err.new) (E.faults err.old) (E.faults err.new) (status_text result) }
 {
     match status {
@@ -89,11 +95,9 @@ pub fn tell<E: Sink>(alloc: Global, err: &mut E, status: Status) -> Status
         Status::WriteFault => tell_line(err, b"palm: write fault\n"),
         Status::NoMemory => tell_line(err, b"palm: no memory\n"),
         Status::TooLong => tell_line(err, b"palm: input too long\n"),
-        Status::Bad(fault) => {
-            if tell_fault(alloc, err, fault).is_err() {
-                tell_line(err, b"palm: no memory\n");
-                return Status::NoMemory;
-            }
+        Status::BadLine(fault) => return tell_made(err, make_bad_line(alloc, fault), status),
+        Status::BadRow { row, why } => {
+            return tell_made(err, make_bad_row(alloc, row, why), status);
         }
     }
     status

@@ -10,7 +10,7 @@ const SMALL_BATCH: &str = "0 0 new\n1 0 value 1000\n= 2\n";
 
 const SMALL_TRANSCRIPT: &str = "0 0 new\n1 0 value 1000\n= 2\nend 2 1\n";
 
-fn words(alloc: Global, texts: &[&str]) -> Result<Vec<String>, Fail> {
+pub fn words(alloc: Global, texts: &[&str]) -> Result<Vec<String>, Fail> {
     let mut all = Vec::new(alloc);
     for text in texts {
         all.push(String::from_str(alloc, text)?)?;
@@ -19,16 +19,16 @@ fn words(alloc: Global, texts: &[&str]) -> Result<Vec<String>, Fail> {
 }
 
 // A sink with room to spare, whose writes take at most `most` bytes, and of which the write `fail` fails.
-fn sink(alloc: Global, most: usize, fail: Option<u64>) -> Result<MemSink, Fail> {
+pub fn sink(alloc: Global, most: usize, fail: Option<u64>) -> Result<MemSink, Fail> {
     let mut fails = Vec::new(alloc);
     if let Some(number) = fail {
         fails.push(number)?;
     }
-    Ok(MemSink::new(alloc, 10_000, most.max(1), fails)?)
+    Ok(MemSink::new(alloc, 200_000, most.max(1), fails)?)
 }
 
 // Runs the program on a new engine.
-fn run<R: Threads + Sync, S: Source, O: Sink, E: Sink>(
+pub fn run<R: Threads + Sync, S: Source, O: Sink, E: Sink>(
     rt: &R,
     alloc: Global,
     words: &Vec<String>,
@@ -39,24 +39,24 @@ fn run<R: Threads + Sync, S: Source, O: Sink, E: Sink>(
     start::<R, S, O, E, Brand>(rt, alloc, words, src, out, err, Blank::new(1))
 }
 
-// Runs a script that is read and written without a fault, and compares the status, the transcript and what is told.
-fn replays<R: Threads + Sync + Abort>(
+// Runs the program on an input that is read and written without a fault, and compares the status, what is written and what is told.
+pub fn ends_as<R: Threads + Sync + Abort>(
     rt: &R,
     alloc: Global,
     texts: &[&str],
-    script: &str,
+    input: &str,
     status: u8,
     out: &str,
     err: &str,
 ) -> Result<(), Fail> {
-    let mut src = SureSource::new(Vec::from_slice(alloc, script.as_bytes())?);
-    let mut transcript = sink(alloc, 7, None)?;
+    let mut src = SureSource::new(Vec::from_slice(alloc, input.as_bytes())?);
+    let mut written = sink(alloc, 7, None)?;
     let mut told = sink(alloc, 100, None)?;
     let all = words(alloc, texts)?;
-    let got = run(rt, alloc, &all, &mut src, &mut transcript, &mut told);
-    assert_eq!(rt; got, status, "{script}");
-    assert_eq!(rt; transcript.taken(), out.as_bytes(), "{script}");
-    assert_eq!(rt; told.taken(), err.as_bytes(), "{script}");
+    let got = run(rt, alloc, &all, &mut src, &mut written, &mut told);
+    assert_eq!(rt; got, status, "{input}");
+    assert_eq!(rt; written.taken(), out.as_bytes(), "{input}");
+    assert_eq!(rt; told.taken(), err.as_bytes(), "{input}");
     Ok(())
 }
 
@@ -90,7 +90,7 @@ fn scripts_give_their_transcripts(rt: HostRuntime) -> Result<(), Fail> {
         ),
         ("64 get 4\n", 3, "", "palm: line 1 fault 1\n"),
     ] {
-        replays(&rt, rt.alloc(), &["replay"], script, status, out, err)?;
+        ends_as(&rt, rt.alloc(), &["replay"], script, status, out, err)?;
     }
     Ok(())
 }
@@ -110,7 +110,7 @@ fn rates_and_lists_are_served(rt: HostRuntime) -> Result<(), Fail> {
     ] {
         let script = format!(in alloc; "{sets}{asks}\n")?;
         let transcript = format!(in alloc; "{new}4 0 {answers}\n= 5\nend 5 4\n")?;
-        replays(&rt, alloc, &["replay"], &script, 0, &transcript, "")?;
+        ends_as(&rt, alloc, &["replay"], &script, 0, &transcript, "")?;
     }
     Ok(())
 }
@@ -161,7 +161,7 @@ fn cuts_and_dumps(rt: HostRuntime) -> Result<(), Fail> {
             "0 0 new\n= 1\n1 5 value 1\n= 1\n2 0 gone 1\n= 1\n3 5 absent\n= 1\nend 4 0\n",
         ),
     ] {
-        replays(&rt, alloc, &["replay", options], script, 0, transcript, "")?;
+        ends_as(&rt, alloc, &["replay", options], script, 0, transcript, "")?;
     }
     Ok(())
 }
@@ -208,9 +208,9 @@ fn batches_shape_the_tree_and_workers_do_not(rt: HostRuntime) -> Result<(), Fail
     together.push_str("end 34 34\n")?;
     apart.push_str("end 34 34\n")?;
     for workers in ["--workers=1", "--workers=3", "--workers=64"] {
-        replays(&rt, alloc, &[workers, "replay"], &script, 0, &together, "")?;
+        ends_as(&rt, alloc, &[workers, "replay"], &script, 0, &together, "")?;
         let one_by_one = ["--batch", "1", workers, "replay"];
-        replays(&rt, alloc, &one_by_one, &script, 0, &apart, "")?;
+        ends_as(&rt, alloc, &one_by_one, &script, 0, &apart, "")?;
     }
     Ok(())
 }

@@ -1,11 +1,10 @@
-use Rattle.std.proofs.Common.{◌≡◌, Bool, Err, refl, sym, ap, subst, ◌∙◌}
+use Rattle.std.proofs.Common.{◌≡◌, Err, refl, sym, ap}
 use Rattle.std.specs.Prelude.{◌&&◌, is_none}
 use Rattle.palm_base.proofs.EmptyTree.{empty_is_lawful}
 use Rattle.palm_tree.specs.TreeValue.{tree_in}
 use Rattle.palm_script.specs.Input.{is_whole}
 use Rattle.palm_script.specs.Script.{Outcome, Says, script_of}
-use Rattle.palm_cli.specs.Ends.{EndsAs}
-use Rattle.palm_cli.specs.declared.status.Status.{Status}
+use Rattle.palm_words.specs.declared.settings.Mode.TheVariants.{Replay}
 use Rattle.palm_cli.proofs.Endings.{said_text, said_front, said_tree, said_cost}
 use Rattle.palm_cli.proofs.Outcomes.{Ran, run_ends}
 use Rattle.palm_cli.proofs.Statuses.{stop_ends}
@@ -29,7 +28,7 @@ returns-in-Err-clause-end g c =
     let ends : c.is_finished-ends.result ≡ is_whole end && is_none outcome.fault = rw (← says.fault) c.is_finished-ends.ensures in
     let front = said_front settings outcome script c.is_finished-ends.result _ _ says c.in-Err.ensures.front in
     rw c.from.ensures (
-    stop_ends settings c.in-Err.stop _ (tree_in c.run_script.new.engine.tree) (λ is. c.in-Err.ensures.cause (ap Err is))
+    stop_ends Replay settings c.in-Err.stop _ (tree_in c.run_script.new.engine.tree) (λ is. c.in-Err.ensures.cause (ap Err is))
     (stopped settings _ _ _ _ _ _ bytes end outcome c.is_finished-ends.result c.in-Ok.ensures.read c.in-Ok.ensures.most refl ends front)
     )
 

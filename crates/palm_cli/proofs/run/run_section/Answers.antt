@@ -1,7 +1,6 @@
-use Rattle.std.proofs.Common.{◌≡◌, ℕ, [], ◌++◌, List, length, ap, sym, refl, ◌∙◌}
+use Rattle.std.proofs.Common.{◌≡◌, ℕ, [], ◌++◌, List, length, ap, refl, ◌∙◌}
 use Rattle.std.proofs.lemmas.List.{append-nil}
 use Rattle.palm_base.specs.Pass.{tree_after}
-use Rattle.palm_base.specs.Tree.{Tree}
 use Rattle.palm_tree.specs.TreeValue.{tree_in}
 use Rattle.palm_script.specs.Transcript.{come_to, dump_text, batches_text, cut_by}
 use Rattle.palm_cli.specs.Streams.{AppendsFront}

@@ -1,16 +1,14 @@
-use Rattle.std.proofs.Common.{◌≡◌, ℕ, ◌+◌, ◌<◌, [], ◌∷◌, ◌++◌, List, length, take, drop, get_or, false, ap, sym, subst, ◌∙◌, arith}
+use Rattle.std.proofs.Common.{◌≡◌, ℕ, ◌+◌, [], ◌∷◌, ◌++◌, List, length, drop, get_or, false, ap, sym, subst, ◌∙◌, arith}
 use Rattle.std.specs.Prelude.{sum_by}
 use Rattle.std.specs.Io.KnownBytes.{Appends}
 use Rattle.std.proofs.KnownBytes.{Appends-trans}
 use Rattle.std.proofs.lemmas.List.{at_drop_more, append-nil, drop_all}
 use Rattle.std.proofs.lemmas.List.Sums.{sum_by-cons}
 use Rattle.std.proofs.lemmas.Result.{on_ok_weaker, on_err_weaker}
-use Rattle.palm_base.specs.declared.call.Entry.{Entry}
 use Rattle.palm_tree.specs.TreeValue.{tree_in}
 use Rattle.palm_script.specs.Transcript.{Section, come_to, section_by, sections_by, section_text, sections_text, after_section, after_sections}
 use Rattle.palm_script.specs.declared.script.SectionEnd.{SectionEnd}
 use Rattle.palm_cli.specs.Costs.{sections_cost}
-use Rattle.palm_cli.specs.Streams.{AppendsFront}
 use Rattle.palm_cli.proofs.Fronts.{on_err, front_more}
 use Rattle.palm_cli.proofs.Sections.{next_section, section_cost, section_written, section_run}
 use Rattle.palm_cli.proofs.run.run_sections.Goals as goal

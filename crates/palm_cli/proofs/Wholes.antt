@@ -1,0 +1,20 @@
+-- What was read to the end of a source is all that it had.
+use Rattle.std.proofs.Common.{◌≡◌, ℕ, ◌<◌, List, ◌++◌, length, Option, Some, None, sym, ap, subst, ◌∙◌, arith}
+use Rattle.std.specs.Prelude.{IfSome}
+use Rattle.std.specs.Io.KnownBytes.{Consumes, IsAtEnd}
+use Rattle.std.proofs.lemmas.List.{append-nil, length-append}
+
+-- What holds of the bytes that were read holds of those that the source had, where it tells them.
+pub where_whole : (P : List ℕ → Type 0) (left rest : Option (List ℕ)) (bytes : List ℕ) → Consumes left rest bytes → IsAtEnd rest → P bytes → IfSome left P
+where_whole P None rest bytes read end p = tt
+where_whole P (Some b) None bytes read end p = absurd read
+where_whole P (Some b) (Some r) bytes read end p =
+    let whole : b ≡ bytes = read ∙ ap (λ (l : List ℕ). bytes ++ l) end ∙ append-nil bytes in
+    subst P (sym whole) p
+
+-- Of a source that has more than so many bytes one more was read.
+pub where_longer : (most : ℕ) (left rest : Option (List ℕ)) (bytes more : List ℕ) → Consumes left rest (bytes ++ more) → length bytes ≡ most → length more ≡ 1 → IfSome left (λ b. most < length b)
+where_longer most None rest bytes more read size one = tt
+where_longer most (Some b) None bytes more read size one = absurd read
+where_longer most (Some b) (Some r) bytes more read size one =
+    omega (arith, ap length read, length-append (bytes ++ more) r, length-append bytes more, size, one)

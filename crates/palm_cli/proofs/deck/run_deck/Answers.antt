@@ -1,0 +1,32 @@
+use Rattle.std.proofs.Common.{◌≡◌, List, ap, subst, ◌∙◌}
+use Rattle.std.specs.Io.KnownBytes.{Appends}
+use Rattle.std.proofs.lemmas.Result.{on_ok_weaker, on_err_weaker}
+use Rattle.palm_base.specs.History.{table_after}
+use Rattle.palm_base.specs.Tree.{Tree, rows_of}
+use Rattle.palm_base.specs.declared.row.Row.{Row}
+use Rattle.palm_deck.specs.Deck.{deck_text}
+use Rattle.palm_tree.specs.TreeValue.{tree_in}
+use Rattle.palm_cli.specs.Decks.{deck_left}
+use Rattle.palm_cli.specs.Streams.{AppendsFront}
+use Rattle.palm_cli.specs.Tables.{table_left}
+use Rattle.palm_base.proofs.EmptyTree.{empty_is_lawful}
+use Rattle.palm_cli.proofs.Fronts.{on_err, front_none}
+use Rattle.palm_cli.proofs.deck.run_deck.Goals as goal
+
+pub run_edits-requires-clause-lawful : goal.run_edits-requires-clause-lawful
+run_edits-requires-clause-lawful g c κs within = empty_is_lawful (tree_in c.args.engine.now.tree) c.requires.new
+
+pub returns-in_err-run_edits-clause-front : goal.returns-in_err-run_edits-clause-front
+returns-in_err-run_edits-clause-front g c = on_err c.from_residual.result (front_none (g.O.Sink.taken c.args.out.now) (deck_left c.args.edits.now))
+
+pub returns-clause-text : goal.returns-clause-text
+returns-clause-text g c =
+    let edits = c.args.edits.now in
+    let rows : rows_of (tree_in c.run_edits.new.engine.tree) ≡ table_left edits = c.in_ok-run_edits.ensures.rows ∙ ap (λ (t : Tree). table_after (rows_of t) edits) c.requires.new in
+    on_ok_weaker c.write_table.result (λ took. subst (λ (r : List Row). Appends (g.O.Sink.taken c.args.out.now) (g.O.Sink.taken c.write_table.new.out) (deck_text r)) rows took) c.write_table.ensures.text
+
+pub returns-clause-front : goal.returns-clause-front
+returns-clause-front g c =
+    let edits = c.args.edits.now in
+    let rows : rows_of (tree_in c.run_edits.new.engine.tree) ≡ table_left edits = c.in_ok-run_edits.ensures.rows ∙ ap (λ (t : Tree). table_after (rows_of t) edits) c.requires.new in
+    on_err_weaker c.write_table.result (λ took. subst (λ (r : List Row). AppendsFront (g.O.Sink.taken c.args.out.now) (g.O.Sink.taken c.write_table.new.out) (deck_text r)) rows took) c.write_table.ensures.front
