@@ -1,13 +1,11 @@
 -- Digits that are written read as themselves.
-use Rattle.std.proofs.Common.{◌≡◌, ℕ, zero, suc, ◌+◌, ◌-◌, ◌/◌, ◌%◌, ◌<◌, ◌≤◌, false, cond, ltb, List, [], ◌∷◌, ◌++◌, length, take, drop, replicate, set, Some, None, Ok, Err, refl, sym, ap, ◌∙◌, arith}
-use Rattle.std.specs.List.{position, position_or_len}
+use Rattle.std.proofs.Common.{◌≡◌, ℕ, zero, suc, ◌+◌, ◌-◌, ◌/◌, ◌%◌, ◌<◌, ◌≤◌, List, [], ◌∷◌, ◌++◌, length, take, drop, replicate, set, Ok, refl, sym, ap, ◌∙◌, arith}
 use Rattle.std.proofs.Math.Seq.{take-add}
-use Rattle.std.proofs.lemmas.Bool.{le-ltb, ne_eqb}
-use Rattle.std.proofs.lemmas.List.{take_all, take-replicate, drop-replicate, map-append, length-append, length-map, length-replicate, take_more_set}
+use Rattle.std.proofs.lemmas.List.{take-replicate, drop-replicate, map-append, length-append, length-replicate, take_more_set}
 use Rattle.palm_base.specs.declared.digits.TheConstants.{MOST_DIGITS}
-use Rattle.palm_base.specs.declared.digits.DigitsFault.TheVariants.{Empty, Long}
-use Rattle.palm_base.specs.Prefix.{AreDigits, IsPrefix, is_no_digit, digits_in, read_of, read_at}
+use Rattle.palm_base.specs.Prefix.{AreDigits, IsPrefix, read_of}
 use Rattle.palm_base.specs.Text.{digits_text}
+use Rattle.palm_base.proofs.Numerals.{read_of-digits_text}
 use Rattle.palm_gen.specs.Generator.{last_digits}
 
 -- ---- digits of a number, and a digit after them
@@ -37,33 +35,6 @@ are_prefix n v d times some room small =
       small = joined_digits (last_digits n v) (replicate times d) (last_are_digits n v) (same_are_digits times d small);
     }
 
--- ---- what a text of digits reads as
-
-byte_is : (d : ℕ) → d < 10 → is_no_digit (d + 48) ≡ false
-byte_is d h = grind arith
-
-no_other : (ds : List ℕ) → AreDigits ds → position_or_len is_no_digit (digits_text ds) ≡ length (digits_text ds)
-no_other [] h = refl
-no_other (d ∷ ds) h = rw (byte_is d h.0) (omega (arith, no_other ds h.1))
-
-spelled : (ds : List ℕ) → digits_in (digits_text ds) ≡ ds
-spelled [] = refl
-spelled (d ∷ ds) = (λ i. one i ∷ spelled ds i)
-  where
-    one : (d + 48) - 48 ≡ d
-    one = omega arith
-
-reads : (ds : List ℕ) → IsPrefix ds → read_of (digits_text ds) ≡ Ok ds
-reads ds h =
-    let text : List ℕ = digits_text ds in
-    let size : length text ≡ length ds = length-map ds (λ d. d + 48) in
-    let whole : take MOST_DIGITS text ≡ text = take_all MOST_DIGITS text (omega (arith, size, h.few)) in
-    let none : position is_no_digit (take MOST_DIGITS text) ≡ None =
-    ap (position is_no_digit) whole ∙ ap (λ k. cond (ltb k (length text)) (Some k) None) (no_other ds h.small) ∙ ap (λ b. cond b (Some (length text)) None) (le-ltb (length text) (length text) (omega arith)) in
-    ap (λ b. cond b (Err Empty) (read_at (position is_no_digit (take MOST_DIGITS text)) text)) (ne_eqb (length text) 0 (λ e. omega (arith, size, h.some)))
-    ∙ ap (λ o. read_at o text) none ∙ ap (λ b. cond b (Err Long) (Ok (digits_in text))) (le-ltb MOST_DIGITS (length text) (omega (arith, size, h.few)))
-    ∙ ap (λ (l : List ℕ). Ok l) (spelled ds)
-
 -- ---- a text that begins with the digits of a number
 
 -- with its last digit they are one more
@@ -87,4 +58,4 @@ front_is n v d b times text byte room front rest =
 pub all_read : (n v d b times : ℕ) (text : List ℕ) → b ≡ d + 48 → 1 ≤ n → n + times ≤ MOST_DIGITS → d < 10 → take n text ≡ digits_text (last_digits n v) → drop n text ≡ drop n (replicate MOST_DIGITS b)
     → read_of (take (n + times) text) ≡ Ok (last_digits n v ++ replicate times d)
 all_read n v d b times text byte some room small front rest =
-    ap read_of (front_is n v d b times text byte room front rest) ∙ reads (last_digits n v ++ replicate times d) (are_prefix n v d times some room small)
+    ap read_of (front_is n v d b times text byte room front rest) ∙ read_of-digits_text (last_digits n v ++ replicate times d) (are_prefix n v d times some room small)

@@ -31,10 +31,6 @@ set_in items = set_by (mode_words items) (values_of items)
 
 -- ---- what is set follows from the VALUEs of the options alone
 
--- The VALUEs of what is an option, and none of what isn't.
-abbrev only : (Text → List Text) → Text → List Text
-only values n = if is_among n option_names then values n else []
-
 set_by_same : (words : List Text) (f g : Text → List Text) → ((n : Text) → is_among n option_names ≡ true → f n ≡ g n) → set_by words f ≡ set_by words g
 set_by_same words f g same = λ k. set_by words (λ n. at n (is_among n option_names) refl k)
   where

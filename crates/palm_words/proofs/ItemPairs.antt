@@ -70,20 +70,13 @@ still_one id kv e new h = rw (texts_under-append id kv (e ∷ [])) (at (bytes_eq
         rw nothing (omega arith)
     at false is = rw (append-nil (texts_under id kv)) h
 
--- where each id is new, none stands twice, and a mode word stands
+-- where each id is new, none stands twice
 pub fresh_once : (id : Text) (kv es : List Pair) → fresh kv es ≡ true → length (texts_under id kv) ≤ 1 → length (texts_under id (kv ++ es)) ≤ 1
 fresh_once id kv [] f h = rw (append-nil kv) h
 fresh_once id kv (e ∷ es) f h =
     let parts = and_parts (not (has e.0 kv)) (fresh (kv ++ e ∷ []) es) f in
     let whole : (kv ++ e ∷ []) ++ es ≡ kv ++ e ∷ es = append_assoc kv (e ∷ []) es in
     subst (λ (l : List Pair). length (texts_under id l) ≤ 1) whole (fresh_once id (kv ++ e ∷ []) es parts.1 (still_one id kv e (not-true _ parts.0) h))
-
-pub fresh_mode : (kv es : List Pair) → fresh kv es ≡ true → 0 < length (texts_under mode (kv ++ es))
-fresh_mode kv [] f = rw (append-nil kv) (stands mode kv f)
-fresh_mode kv (e ∷ es) f =
-    let parts = and_parts (not (has e.0 kv)) (fresh (kv ++ e ∷ []) es) f in
-    let whole : (kv ++ e ∷ []) ++ es ≡ kv ++ e ∷ es = append_assoc kv (e ∷ []) es in
-    subst (λ (l : List Pair). 0 < length (texts_under mode l)) whole (fresh_mode (kv ++ e ∷ []) es parts.1)
 
 module _ (names : List Text) where
   -- each id is that of an option or of the mode word
