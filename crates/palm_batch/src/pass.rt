@@ -53,7 +53,7 @@ pub(crate) fn route<R: Threads + Sync, G: Gate + Sync>(
 {
     let parts = expand(alloc, arena, shape, batch)?;
     let routed = descend(rt, alloc, arena, shape, parts, workers, gate)?;
-    let groups = group(rt, alloc, routed)?;
+    let groups = group(rt, alloc, routed, workers)?;
     Ok(groups)
 }
 

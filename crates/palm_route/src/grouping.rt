@@ -60,15 +60,20 @@ fn sort_many<R: Threads + Sync>(rt: &R, alloc: Global, marks: &mut [Mark]) -> Re
     par_sort_by_key(rt, alloc, marks, |mark| mark.low)
 }
 
-// The same. Several threads are asked only where there are many marks: asking the system how many there may be takes longer
-// than a sort of a few.
-fn sort<R: Threads + Sync>(rt: &R, alloc: Global, marks: &mut [Mark]) -> Result<(), AllocError>
+// The same. The system's threads are asked only where there are several workers and many marks: asking how many there may be takes
+// longer than a sort of a few.
+fn sort<R: Threads + Sync>(
+    rt: &R,
+    alloc: Global,
+    marks: &mut [Mark],
+    workers: u32,
+) -> Result<(), AllocError>
     ensures len { length marks.new ≡ length marks.old }
     ensures permutation { IsPermutation marks.old marks.new }
     ensures sorted { OnOk result (IsSortedByKey (λ mark. mark.low) nat_cmp marks.new) }
     ensures stable { IsStableByKey (λ mark. mark.low) nat_cmp marks.old marks.new }
 {
-    if marks.len() < MANY_MARKS {
+    if workers == 1 || marks.len() < MANY_MARKS {
         return sort_few(alloc, marks);
     }
     sort_many(rt, alloc, marks)
@@ -146,15 +151,17 @@ fn runs(alloc: Global, routed: &[Routed], marks: &[Mark]) -> Result<Groups, NoMe
 }
 
 /// Puts routed parts together by leaf. The groups stand in the order of the leaves, and the parts of a group in the order in
-/// which they are given. `NoMemory` where room for them was refused.
+/// which they are given. One worker sorts many parts alone; for more of them as many threads as the system has may sort.
+/// `NoMemory` where room for them was refused.
 pub fn group<R: Threads + Sync>(
     rt: &R,
     alloc: Global,
     routed: RoutedList,
+    workers: u32,
 ) -> Result<Groups, NoMemory>
     ensures { IfOk result (λ groups. (places : List LeafPlace) → LowsRise places → AllByRecursion (IsRoutedTo places) routed → groups ≡ groups_of places (map (λ one. one.part) routed)) }
 {
     let mut marks = marks_of(alloc, routed.as_slice())?;
-    sort(rt, alloc, marks.as_mut_slice())?;
+    sort(rt, alloc, marks.as_mut_slice(), workers)?;
     runs(alloc, routed.as_slice(), marks.as_slice())
 }

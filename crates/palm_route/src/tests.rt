@@ -57,7 +57,7 @@ fn groups_parts_by_leaf(rt: HostRuntime) -> Result<(), Fail> {
     for (entry, number, prefix, leaf, low) in cases {
         routed.push(at_leaf(entry, number, digits(&rt, prefix), leaf, low))?;
     }
-    let groups = group(&rt, rt.alloc(), routed)?;
+    let groups = group(&rt, rt.alloc(), routed, 2)?;
     assert_eq!(rt; groups.len(), 2);
     for (i, group) in groups.into_list().iter().enumerate() {
         if i == 0 {
@@ -71,7 +71,7 @@ fn groups_parts_by_leaf(rt: HostRuntime) -> Result<(), Fail> {
 
 #[test]
 fn groups_nothing(rt: HostRuntime) -> Result<(), Fail> {
-    let groups = group(&rt, rt.alloc(), RoutedList::new(rt.alloc()))?;
+    let groups = group(&rt, rt.alloc(), RoutedList::new(rt.alloc()), 1)?;
     assert!(rt; groups.is_empty());
     Ok(())
 }
@@ -155,7 +155,7 @@ fn assert_routed(
         shares,
         "{workers} workers"
     );
-    let groups = group(rt, alloc, routed)?;
+    let groups = group(rt, alloc, routed, workers)?;
     assert_eq!(rt; groups.len(), 1);
     for group in groups.into_list() {
         assert_group(rt, &group, shape.root.place, &[0, 1, 2, 3, 3, 3, 4]);
