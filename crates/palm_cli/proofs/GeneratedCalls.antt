@@ -2,7 +2,7 @@
 use Rattle.std.proofs.Common.{◌≡◌, ℕ, ◌+◌, ◌-◌, ◌≤◌, List, ◌++◌, length, take, drop, sym, ap, ◌∙◌, arith}
 use Rattle.std.specs.Prelude.{sum_by}
 use lib.Seq.{drop-append_seam}
-use Rattle.std.proofs.lemmas.List.{take-append-drop, take-append-le, take_all}
+use Rattle.std.proofs.lemmas.List.{take-append-le, take_all}
 use Rattle.std.proofs.lemmas.List.Sums.{sum_by-append}
 use Rattle.palm_base.proofs.Histories.{replies_to-append}
 use Rattle.palm_base.specs.History.{replies_to, table_after}
@@ -12,6 +12,7 @@ use Rattle.palm_base.specs.declared.row.Row.{Row}
 use Rattle.palm_gen.specs.Generator.{history_from, state_after}
 use Rattle.palm_gen.specs.Laws.{HistoriesJoin, HistoriesAreLong}
 use Rattle.palm_gen.specs.Summary.{Counts}
+use Rattle.palm_cli.proofs.Batches.{IsFirstBatch, batch_joins}
 
 -- Of n calls the first k, and those behind them.
 parted : HistoriesJoin → (n k state i : ℕ) → k ≤ n → history_from n state i ≡ history_from k state i ++ history_from (n - k) (state_after k state) (i + k)
@@ -33,12 +34,11 @@ other_calls join long n k state i few =
     let size : length first ≡ k = long k state i in
     sym (ap (drop k) (parted join n k state i few) ∙ ap (λ (m : ℕ). drop m (first ++ rest)) (sym size) ∙ drop-append_seam first rest)
 
--- What replies to calls sum up to is what those to the first of them do and those to the others.
-pub replies_more : (f : Reply → ℕ) (k : ℕ) (rows next : List Row) (rest batch left : List Entry) → batch ≡ take k rest → left ≡ drop k rest → next ≡ table_after rows batch
+-- What replies to calls sum up to is what those to their first batch do and those to the others.
+pub replies_more : (f : Reply → ℕ) (rows : List Row) {next : List Row} {most : ℕ} {rest batch left : List Entry} → IsFirstBatch most rest batch left → next ≡ table_after rows batch
     → sum_by f (replies_to rows rest) ≡ sum_by f (replies_to rows batch) + sum_by f (replies_to next left)
-replies_more f k rows next rest batch left batch-is left-is next-is =
-    let whole : batch ++ left ≡ rest = rw (batch-is, left-is) (take-append-drop k rest) in
-    ap (λ (l : List Entry). sum_by f (replies_to rows l)) (sym whole)
+replies_more f rows {batch = batch} {left = left} first next-is =
+    ap (λ (l : List Entry). sum_by f (replies_to rows l)) (sym (batch_joins first))
     ∙ ap (sum_by f) (replies_to-append rows batch left)
     ∙ sum_by-append f (replies_to rows batch) (replies_to (table_after rows batch) left)
     ∙ ap (λ (t : List Row). sum_by f (replies_to rows batch) + sum_by f (replies_to t left)) (sym next-is)

@@ -33,7 +33,8 @@ section_at most rest {calls} {after} ends i more front back =
     at_drop_more (sections_by most rest) ends i (record { calls = 0; dumps = false }) more ∙ next_section most rest calls after (end_at ends i) (drop (i + 1) ends) front back
 
 -- The last section: behind the last end the calls that are left are one section, with no dump.
-pub last_section : (most : ℕ) (rest : List Entry) (ends : List SectionEnd) (i : ℕ) → length ends ≤ i → sections_by most rest (drop i ends) ≡ section_by most rest false ∷ []
+pub last_section : (most : ℕ) (rest : List Entry) (ends : List SectionEnd) (i : ℕ) → length ends ≤ i
+    → sections_by most rest (drop i ends) ≡ section_by most rest false ∷ []
 last_section most rest ends i none = ap (sections_by most rest) (drop_all i ends none)
 
 -- The ends from i on have the calls of the i-th, and those of the ends behind it.

@@ -1,13 +1,11 @@
 use Rattle.std.proofs.Common.{◌≡◌, ℕ, ◌+◌, ◌-◌, ◌≤◌, ◌<◌, min, cond, length, take, drop, ◌++◌, arith, refl, ap, ◌∙◌}
-use Rattle.std.proofs.lemmas.List.{take-append-drop}
 use Rattle.palm_base.specs.History.{replies_to}
 use Rattle.palm_base.specs.Tree.{rows_of}
-use Rattle.palm_base.proofs.Histories.{table_after-append}
 use Rattle.palm_gen.specs.Generator.{history_from}
 use Rattle.palm_gen.specs.Summary.{is_hit, rate_in, hits_in, sum_in}
 use Rattle.palm_tree.specs.TreeValue.{tree_in}
 use Rattle.palm_cli.specs.Generated.{history_said}
-use Rattle.palm_cli.proofs.Batches.{cost_more, tree_more}
+use Rattle.palm_cli.proofs.Batches.{first_batch, cost_more, rows_more, tree_more}
 use Rattle.palm_base.proofs.EmptyTree.{empty_is_lawful}
 use Rattle.palm_cli.proofs.GeneratedCalls.{first_calls, other_calls, replies_more, counts_by}
 use Rattle.palm_cli.proofs.generate.run_calls.Goals as goal
@@ -56,26 +54,26 @@ loop-at-preserved g c =
     c.deref.ensures.value ∙ c.in_ok-state.ensures.ok ∙ ap (λ l. l ++ history_from k c.loop-at.state c.loop-at.at) c.clear.ensures.items in
     let many : length c.deref-in-loop-at.result.now ≡ k =
     ap length c.deref-in-loop-at.ensures.value ∙ c.in_ok-replies.ensures.many ∙ ap length made ∙ c.histories_are_long.ensures k c.loop-at.state c.loop-at.at in
-    let front : batch ≡ take (min (length rest) most) rest =
-    made ∙ first_calls c.histories_join.ensures c.histories_are_long.ensures n k c.loop-at.state c.loop-at.at few ∙ ap (λ (m : ℕ). take m rest) count in
+    let front : batch ≡ take k rest = made ∙ first_calls c.histories_join.ensures c.histories_are_long.ensures n k c.loop-at.state c.loop-at.at few in
     let fewer : settings.calls - (c.loop-at.at + k) ≡ n - k = omega arith in
-    let back : left ≡ drop (min (length rest) most) rest =
+    let back : left ≡ drop k rest =
     ap (λ (m : ℕ). history_from m c.in_ok-state.state (c.loop-at.at + k)) fewer
     ∙ ap (λ (s : ℕ). history_from (n - k) s (c.loop-at.at + k)) c.in_ok-state.ensures.state
-    ∙ other_calls c.histories_join.ensures c.histories_are_long.ensures n k c.loop-at.state c.loop-at.at few ∙ ap (λ (m : ℕ). drop m rest) count in
+    ∙ other_calls c.histories_join.ensures c.histories_are_long.ensures n k c.loop-at.state c.loop-at.at few in
+    let first = first_batch c.requires.settings.some_batch some count front back in
     let replies : c.deref-in-loop-at.result.now ≡ replies_to (rows_of now) batch = c.deref-in-loop-at.ensures.value ∙ c.in_ok-replies.ensures.replies in
     let hits : hits_in (replies_to (rows_of now) rest) ≡ hits_in (replies_to (rows_of now) batch) + hits_in (replies_to (rows_of next) left) =
-    replies_more (λ reply. cond (is_hit reply) 1 0) _ (rows_of now) (rows_of next) rest batch left front back c.in_ok-replies.ensures.rows in
+    replies_more (λ reply. cond (is_hit reply) 1 0) (rows_of now) first c.in_ok-replies.ensures.rows in
     let sums : sum_in (replies_to (rows_of now) rest) ≡ sum_in (replies_to (rows_of now) batch) + sum_in (replies_to (rows_of next) left) =
-    replies_more rate_in _ (rows_of now) (rows_of next) rest batch left front back c.in_ok-replies.ensures.rows in
+    replies_more rate_in (rows_of now) first c.in_ok-replies.ensures.rows in
     let hit : hits_in c.deref-in-loop-at.result.now ≡ hits_in (replies_to (rows_of now) batch) = ap hits_in replies in
     let summed : sum_in c.deref-in-loop-at.result.now ≡ sum_in (replies_to (rows_of now) batch) = ap sum_in replies in
     record {
       few = omega (arith, few, c.loop-at.invariant.few);
-      tree = tree_more most now next _ rest batch left c.requires.settings.some_batch some front back c.in_ok-replies.ensures.tree c.loop-at.invariant.tree;
-      rows = rw (c.in_ok-replies.ensures.rows, ← table_after-append (rows_of now) batch left, front, back, take-append-drop (min (length rest) most) rest) c.loop-at.invariant.rows;
+      tree = tree_more now first c.in_ok-replies.ensures.tree c.loop-at.invariant.tree;
+      rows = rows_more (rows_of now) first c.in_ok-replies.ensures.rows c.loop-at.invariant.rows;
       lawful = c.run_batch.ensures.lawful;
-      ticks = omega (arith, cost_more most now next rest batch left c.requires.settings.some_batch some front back c.in_ok-replies.ensures.tree, c.run_batch.ensures.ticks, c.loop-at.invariant.ticks);
+      ticks = omega (arith, cost_more now first c.in_ok-replies.ensures.tree, c.run_batch.ensures.ticks, c.loop-at.invariant.ticks);
       calls = omega (arith, c.add.ensures.calls, many, c.loop-at.invariant.calls);
       hits = omega (arith, c.add.ensures.hits, hit, hits, c.loop-at.invariant.hits);
       sum = omega (arith, c.add.ensures.sum, summed, sums, c.loop-at.invariant.sum);

@@ -1,5 +1,4 @@
-use Rattle.std.proofs.Common.{◌≡◌, ℕ, ◌+◌, ◌≤◌, ◌++◌, List, length}
-use Rattle.std.specs.Io.KnownBytes.{Appends}
+use Rattle.std.proofs.Common.{◌≡◌, ◌+◌, ◌≤◌, length}
 use Rattle.palm_base.specs.History.{table_after}
 use Rattle.palm_base.specs.Lawful.{IsLawful}
 use Rattle.palm_base.specs.Pass.{tree_after}
@@ -7,6 +6,7 @@ use Rattle.palm_base.specs.Tree.{rows_of}
 use Rattle.palm_script.specs.Transcript.{come_to, batches_text, cut_by}
 use Rattle.palm_tree.specs.TreeValue.{tree_in}
 use Rattle.palm_cli.specs.Costs.{batches_cost}
+use Rattle.palm_cli.proofs.Fronts.{AppendsBut}
 use Rattle.palm_cli.proofs.run.run_batches.Given as goal
 
 -- what was written so far, with the text of what is left, is the whole text, and what is left leaves the whole tree
@@ -20,7 +20,7 @@ invariant-loop-rest g l =
     let now = tree_in l.engine.tree in
     let first = tree_in l.fn.engine.tree in
     record {
-      written : (w : List ℕ) × Appends (taken l.fn.out) (taken l.out) w × (w ++ batches_text dump (come_to l.at now) l.rest lengths ≡ batches_text dump (come_to l.n first) l.calls all);
+      written : AppendsBut (taken l.fn.out) (taken l.out) (batches_text dump (come_to l.at now) l.rest lengths) (batches_text dump (come_to l.n first) l.calls all);
       tree : tree_after now l.rest lengths ≡ tree_after first l.calls all;
       rows : table_after (rows_of now) l.rest ≡ table_after (rows_of first) l.calls;
       lawful : IsLawful now;

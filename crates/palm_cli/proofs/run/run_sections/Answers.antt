@@ -32,17 +32,17 @@ loop-end-preserved g c =
 pub returns-clause-text : goal.returns-clause-text
 returns-clause-text g c =
     let at = come_to c.loop-end.n (tree_in c.loop-end.engine.tree) in
-    let last = last_section c.args.settings.now.batch c.loop-end.rest.now c.args.ends.now c.loop-end.end-index (omega (arith, c.loop-end-test.false)) in
+    let last = last_section c.args.settings.now.batch c.loop-end.rest.now c.args.ends.now c.loop-end.end-index c.loop-end-test.false in
     on_ok_weaker c.run_section-2.result (λ took. but_nothing _ _ (section_written c.args.settings.now.dump at _ _ _ last refl c.loop-end.invariant.written took)) c.run_section-2.ensures.text
 
 pub returns-clause-front : goal.returns-clause-front
 returns-clause-front g c =
     let at = come_to c.loop-end.n (tree_in c.loop-end.engine.tree) in
-    let last = last_section c.args.settings.now.batch c.loop-end.rest.now c.args.ends.now c.loop-end.end-index (omega (arith, c.loop-end-test.false)) in
+    let last = last_section c.args.settings.now.batch c.loop-end.rest.now c.args.ends.now c.loop-end.end-index c.loop-end-test.false in
     on_err_weaker c.run_section-2.result (λ took. section_begun c.args.settings.now.dump at _ _ _ last c.loop-end.invariant.written took) c.run_section-2.ensures.front
 
 pub returns-clause-ticks : goal.returns-clause-ticks
 returns-clause-ticks g c =
     let at = come_to c.loop-end.n (tree_in c.loop-end.engine.tree) in
-    let last = last_section c.args.settings.now.batch c.loop-end.rest.now c.args.ends.now c.loop-end.end-index (omega (arith, c.loop-end-test.false)) in
+    let last = last_section c.args.settings.now.batch c.loop-end.rest.now c.args.ends.now c.loop-end.end-index c.loop-end-test.false in
     on_ok_weaker c.run_section-2.result (λ ticks. omega (arith, section_cost at last refl, ticks, c.loop-end.invariant.ticks)) c.run_section-2.ensures.ticks
