@@ -6,15 +6,20 @@ use Rattle.palm_base.specs.Tree.{Tree}
 use Rattle.palm_base.specs.declared.call.Entry.{Entry}
 use Rattle.palm_deck.specs.Deck.{deck_of}
 use Rattle.palm_deck.specs.declared.deck.DeckFault.{DeckFault}
+use Rattle.palm_script.specs.Causes.{Rose}
 use Rattle.palm_words.specs.declared.settings.Mode.TheVariants.{Deck}
 use Rattle.palm_words.specs.declared.settings.Settings.{Settings}
 use Rattle.palm_cli.specs.Decks.{IsGoodDeck, deck_left}
-use Rattle.palm_cli.specs.Ends.{Outside, HasStopped, EndsIn}
+use Rattle.palm_cli.specs.Ends.{Outside, EndsIn}
 use Rattle.palm_cli.specs.Reads.{IsEdits, IsNoDeck}
+use Rattle.palm_cli.specs.Stops.{status_of}
 use Rattle.palm_cli.specs.Streams.{AppendsFront}
 use Rattle.palm_cli.specs.Tables.{tree_left, cost_left}
+use Rattle.palm_cli.specs.declared.run.Stop.{Stop}
+use Rattle.palm_cli.specs.declared.run.Stop.TheVariants.{Write}
 use Rattle.palm_cli.specs.declared.status.Status.{Status}
 use Rattle.palm_cli.specs.declared.status.Status.TheVariants.{Done, Usage, BadLine, ReadFault, WriteFault, NoMemory, TooLong, BadRow}
+use Rattle.palm_cli.proofs.Statuses.{stop_ends}
 use Rattle.palm_cli.proofs.Stopped.{stopped_at_once}
 use Rattle.palm_cli.proofs.Wholes.{where_whole}
 
@@ -45,5 +50,7 @@ deck_ends settings o edits after read text tree kept few = (
 )
 
 -- It stopped before its end.
-pub deck_stopped : (settings : Settings) (o : Outside) (edits : List Entry) → IsEdits o.left o.rest o.reads_before o.reads_now edits → AppendsFront o.taken o.now (deck_left edits) → HasStopped Deck settings o
-deck_stopped settings o edits read front = (read.bytes, read.whole, inr (read.end, read.size, (edits, read.says, front)))
+pub deck_stops : (settings : Settings) (stop : Stop) (o : Outside) (edits : List Entry) (after : Tree) → IsEdits o.left o.rest o.reads_before o.reads_now edits
+    → AppendsFront o.taken o.now (deck_left edits) → (stop ≡ Write → Rose o.writes_before o.writes_now) → EndsIn Deck settings (status_of stop) o after
+deck_stops settings stop o edits after read front rose =
+    stop_ends Deck settings stop o after rose (read.bytes, read.whole, inr (read.end, read.size, (edits, read.says, front)))

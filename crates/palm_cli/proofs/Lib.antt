@@ -4,6 +4,7 @@ mod Endings
 mod Fronts
 mod GeneratedCalls
 mod Outcomes
+mod ScriptEnds
 mod Sections
 mod Statuses
 mod Stopped

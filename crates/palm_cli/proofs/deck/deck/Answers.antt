@@ -1,9 +1,7 @@
 use Rattle.std.proofs.Common.{Err, ap}
 use Rattle.palm_tree.specs.TreeValue.{tree_in}
-use Rattle.palm_words.specs.declared.settings.Mode.TheVariants.{Deck}
-use Rattle.palm_cli.proofs.DeckEnds.{deck_ends, deck_stopped}
+use Rattle.palm_cli.proofs.DeckEnds.{deck_ends, deck_stops}
 use Rattle.palm_base.proofs.EmptyTree.{empty_is_lawful}
-use Rattle.palm_cli.proofs.Statuses.{stop_ends}
 use Rattle.palm_cli.proofs.deck.deck.Goals as goal
 
 pub returns-in-Err-clause-lawful : goal.returns-in-Err-clause-lawful
@@ -18,8 +16,7 @@ returns-in-Ok-run_deck-clause-end g c =
 pub returns-clause-end : goal.returns-clause-end
 returns-clause-end g c =
     let read = rw (← c.as_slice.ensures) at c.in-Ok.ensures.ok in
-    let stopped = c.in-Err-run_deck.ensures in
+    let ran = c.in-Err-run_deck.ensures in
     rw c.from.ensures (
-    stop_ends Deck c.args.settings.now c.in-Err-run_deck.stop _ (tree_in c.run_deck.new.engine.tree) (λ is. stopped.cause (ap Err is))
-    (deck_stopped c.args.settings.now _ c.as_slice.result.now read stopped.front)
+    deck_stops c.args.settings.now c.in-Err-run_deck.stop _ c.as_slice.result.now (tree_in c.run_deck.new.engine.tree) read ran.front (λ is. ran.cause (ap Err is))
     )

@@ -1,9 +1,9 @@
-use Rattle.std.proofs.Common.{ℕ, ap, sym, ◌∙◌}
+use Rattle.std.proofs.Common.{sym, ◌∙◌}
 use Rattle.std.proofs.lemmas.Result.{on_ok_weaker, on_err_weaker}
 use Rattle.palm_base.proofs.EmptyTree.{empty_is_lawful}
 use Rattle.palm_tree.specs.TreeValue.{tree_in}
-use Rattle.palm_script.specs.Transcript.{Progress, sections_by, come_to}
-use Rattle.palm_cli.proofs.Endings.{cost_of_run, run_comes_to, run_text, run_front, text_front, text_ended, end_front}
+use Rattle.palm_script.specs.Transcript.{sections_by}
+use Rattle.palm_cli.proofs.Endings.{cost_of_run, run_leaves, run_text, run_front, text_front, text_ended, end_front}
 use Rattle.palm_cli.proofs.Fronts.{on_err}
 use Rattle.palm_cli.proofs.replay.run_script.Goals as goal
 
@@ -28,35 +28,37 @@ pub returns-then-not-ends-clause-tree : goal.returns-then-not-ends-clause-tree
 returns-then-not-ends-clause-tree g c =
     let run = sections_by c.args.settings.now.batch c.deref.result.now c.deref-2.result.now in
     rw (← c.deref.ensures.value, ← c.deref-2.ensures.value) (
-    sym (ap (λ (at : Progress). at.tree) (run_comes_to (tree_in c.args.engine.now.tree) (tree_in c.run_sections.new.engine.tree) run _ c.requires.new c.in_ok-run_sections.ensures.after))
+    run_leaves (tree_in c.args.engine.now.tree) (tree_in c.run_sections.new.engine.tree) run _ c.requires.new c.in_ok-run_sections.ensures.after
     )
 
 pub returns-clause-text : goal.returns-clause-text
 returns-clause-text g c =
     let run = sections_by c.args.settings.now.batch c.deref.result.now c.deref-2.result.now in
-    let dump = c.args.settings.now.dump in
-    let came = run_comes_to (tree_in c.args.engine.now.tree) (tree_in c.run_sections.new.engine.tree) run _ c.requires.new c.in_ok-run_sections.ensures.after in
     let many = c.deref.ensures.len ∙ sym c.len-calls.ensures in
-    let at = ap (λ (n : ℕ). come_to n (tree_in c.run_sections.new.engine.tree)) many in
-    let text = run_text dump (tree_in c.args.engine.now.tree) run _ _ c.requires.new c.in_ok-run_sections.ensures.text in
-    rw (← c.deref.ensures.value, ← c.deref-2.ensures.value, c.if-not-ends.false) (on_ok_weaker c.write_ending.result (λ took. text_ended dump run _ _ _ _ (came ∙ at) text took) c.write_ending.ensures.text)
+    let ran = c.in_ok-run_sections.ensures in
+    rw (← c.deref.ensures.value, ← c.deref-2.ensures.value, c.if-not-ends.false) (
+    on_ok_weaker c.write_ending.result
+    (λ took. text_ended c.args.settings.now.dump (tree_in c.args.engine.now.tree) (tree_in c.run_sections.new.engine.tree) run _ _ _ _ _ c.requires.new ran.after many ran.text took)
+    c.write_ending.ensures.text
+    )
 
 pub returns-clause-front : goal.returns-clause-front
 returns-clause-front g c =
     let run = sections_by c.args.settings.now.batch c.deref.result.now c.deref-2.result.now in
-    let dump = c.args.settings.now.dump in
-    let came = run_comes_to (tree_in c.args.engine.now.tree) (tree_in c.run_sections.new.engine.tree) run _ c.requires.new c.in_ok-run_sections.ensures.after in
     let many = c.deref.ensures.len ∙ sym c.len-calls.ensures in
-    let at = ap (λ (n : ℕ). come_to n (tree_in c.run_sections.new.engine.tree)) many in
-    let text = run_text dump (tree_in c.args.engine.now.tree) run _ _ c.requires.new c.in_ok-run_sections.ensures.text in
-    rw (← c.deref.ensures.value, ← c.deref-2.ensures.value, c.if-not-ends.false) (on_err_weaker c.write_ending.result (λ took. end_front dump run _ _ _ _ (came ∙ at) text took) c.write_ending.ensures.front)
+    let ran = c.in_ok-run_sections.ensures in
+    rw (← c.deref.ensures.value, ← c.deref-2.ensures.value, c.if-not-ends.false) (
+    on_err_weaker c.write_ending.result
+    (λ took. end_front c.args.settings.now.dump (tree_in c.args.engine.now.tree) (tree_in c.run_sections.new.engine.tree) run _ _ _ _ _ c.requires.new ran.after many ran.text took)
+    c.write_ending.ensures.front
+    )
 
 pub returns-clause-tree : goal.returns-clause-tree
 returns-clause-tree g c =
     let run = sections_by c.args.settings.now.batch c.deref.result.now c.deref-2.result.now in
     rw (← c.deref.ensures.value, ← c.deref-2.ensures.value) (
     on_ok_weaker c.write_ending.result
-    (λ took. sym (ap (λ (at : Progress). at.tree) (run_comes_to (tree_in c.args.engine.now.tree) (tree_in c.run_sections.new.engine.tree) run _ c.requires.new c.in_ok-run_sections.ensures.after)))
+    (λ took. run_leaves (tree_in c.args.engine.now.tree) (tree_in c.run_sections.new.engine.tree) run _ c.requires.new c.in_ok-run_sections.ensures.after)
     c.write_ending.ensures.text
     )
 

@@ -1,0 +1,68 @@
+-- How the mode `replay` ends, by what was read of its script and whether all of that was run.
+use Rattle.std.proofs.Common.{◌≡◌, ℕ, ◌+◌, ◌≤◌, Bool, List, [], length, Option, refl, sym, ap, subst, ◌∙◌, arith}
+use Rattle.std.specs.Prelude.{◌&&◌, is_none}
+use Rattle.std.specs.Io.KnownBytes.{Appends}
+use Rattle.palm_base.specs.Tree.{Tree}
+use Rattle.palm_base.specs.declared.call.Entry.{Entry}
+use Rattle.palm_script.specs.Causes.{Rose}
+use Rattle.palm_script.specs.Input.{IsRead, is_whole}
+use Rattle.palm_script.specs.Laws.{FaultsStand}
+use Rattle.palm_script.specs.Script.{Outcome, Says, script_of, entries_from}
+use Rattle.palm_script.specs.Transcript.{Section, sections_by, after_run}
+use Rattle.palm_script.specs.declared.input.InputEnd.{InputEnd}
+use Rattle.palm_script.specs.declared.input.TheConstants.{MOST_BYTES}
+use Rattle.palm_script.specs.declared.line.LineFault.{LineFault}
+use Rattle.palm_script.specs.declared.script.Script.{Script}
+use Rattle.palm_words.specs.declared.settings.Mode.TheVariants.{Replay}
+use Rattle.palm_words.specs.declared.settings.Settings.{Settings}
+use Rattle.palm_cli.specs.Costs.{run_cost}
+use Rattle.palm_cli.specs.Ends.{Outside, EndsIn}
+use Rattle.palm_cli.specs.Scripts.{run_of, tree_said}
+use Rattle.palm_cli.specs.Stops.{ended_by, status_of}
+use Rattle.palm_cli.specs.Streams.{AppendsFront, text_to}
+use Rattle.palm_cli.specs.declared.run.Stop.{Stop}
+use Rattle.palm_cli.specs.declared.run.Stop.TheVariants.{Write}
+use Rattle.palm_cli.proofs.Outcomes.{Ran, run_ends}
+use Rattle.palm_cli.proofs.Statuses.{stop_ends}
+use Rattle.palm_cli.proofs.Stopped.{stopped}
+
+-- The run of a script that was read, by the entries and the ends that it has.
+abbrev pub run_read : Settings → Script → List Section
+run_read settings script = sections_by settings.batch script.entries.items script.ends.items
+
+-- It is the run of what the script says.
+said_run : (settings : Settings) (outcome : Outcome) (script : Script) → Says outcome script → run_read settings script ≡ run_of settings outcome
+said_run settings outcome script says =
+    ap (λ (entries : List Entry). sections_by settings.batch entries script.ends.items) says.entries ∙ ap (sections_by settings.batch (entries_from [] outcome.items)) says.ends
+
+-- It ends in a last line where the script that was read was whole, and what it says has no fault.
+said_finished : (outcome : Outcome) (script : Script) (whole ends : Bool) → Says outcome script → ends ≡ whole && is_none script.fault → ends ≡ whole && is_none outcome.fault
+said_finished outcome script whole ends says is = is ∙ ap (λ (fault : Option LineFault). whole && is_none fault) says.fault
+
+-- All was run.
+pub script_ends : FaultsStand → (settings : Settings) (o : Outside) (bytes : List ℕ) (end : InputEnd) (script : Script) (ends : Bool) (after : Tree)
+    → IsRead o.left o.rest o.reads_before o.reads_now bytes end → length bytes ≤ MOST_BYTES → Says (script_of bytes (is_whole end)) script
+    → ends ≡ is_whole end && is_none script.fault → Appends o.taken o.now (text_to settings.dump ends (run_read settings script))
+    → after ≡ (after_run (run_read settings script)).tree → o.writes_now ≡ o.writes_before → o.steps_now ≤ o.steps_before + run_cost (run_read settings script)
+    → EndsIn Replay settings (ended_by script.fault end) o after
+script_ends stands settings o bytes end script ends after read most says finished text tree kept few =
+    let outcome : Outcome = script_of bytes (is_whole end) in
+    let same = said_run settings outcome script says in
+    let ran : Ran settings outcome ends o.taken o.now after = record {
+      text = subst (λ (run : List Section). Appends o.taken o.now (text_to settings.dump ends run)) same text;
+      tree = tree ∙ ap (λ (run : List Section). (after_run run).tree) same;
+    } in
+    run_ends stands settings o bytes end outcome ends after read most refl (said_finished outcome script (is_whole end) ends says finished)
+    ran kept (omega (arith, few, ap run_cost same)) script.fault (sym says.fault)
+
+-- It stopped before its end.
+pub script_stops : (settings : Settings) (stop : Stop) (o : Outside) (bytes : List ℕ) (end : InputEnd) (script : Script) (ends : Bool) (after : Tree)
+    → IsRead o.left o.rest o.reads_before o.reads_now bytes end → length bytes ≤ MOST_BYTES → Says (script_of bytes (is_whole end)) script
+    → ends ≡ is_whole end && is_none script.fault → AppendsFront o.taken o.now (text_to settings.dump ends (run_read settings script))
+    → (stop ≡ Write → Rose o.writes_before o.writes_now) → EndsIn Replay settings (status_of stop) o after
+script_stops settings stop o bytes end script ends after read most says finished front rose =
+    let outcome : Outcome = script_of bytes (is_whole end) in
+    let begun = subst (λ (run : List Section). AppendsFront o.taken o.now (text_to settings.dump ends run)) (said_run settings outcome script says) front in
+    stop_ends Replay settings stop o after rose (
+    stopped settings o.left o.rest o.taken o.now o.reads_before o.reads_now bytes end outcome ends read most refl (said_finished outcome script (is_whole end) ends says finished) begun
+    )
