@@ -1,6 +1,7 @@
 -- What an exit status says, by how the program ended.
 use Rattle.std.proofs.Common.{◌≡◌, ℕ, zero, suc, ◌<◌, ◌^◌, ◌-◌, ◌⊎◌, inl, inr, true, List, [], Option, Some, None, refl, sym, ap, subst, arith}
 use Rattle.std.specs.Prelude.{IfSome}
+use Rattle.std.specs.Io.KnownBytes.{Consumes}
 use Rattle.std.proofs.KnownBytes.{Consumes-nil}
 use Rattle.palm_base.specs.Tree.{Tree}
 use Rattle.palm_deck.specs.declared.deck.DeckWhy.{DeckWhy}
@@ -10,7 +11,7 @@ use Rattle.palm_words.specs.declared.settings.Mode.{Mode}
 use Rattle.palm_words.specs.declared.settings.Mode.TheVariants.{Replay, Deck, Gen}
 use Rattle.palm_words.specs.declared.settings.Settings.{Settings}
 use Rattle.palm_cli.specs.Decks.{IsBadDeck}
-use Rattle.palm_cli.specs.Ends.{Outside, HasStopped, IsLong, EndsIn, EndsAs, EndsUnfailed, HasEnded}
+use Rattle.palm_cli.specs.Ends.{Outside, HasStopped, IsReadWhole, IsDone, TookFew, IsCutShort, IsLong, EndsIn, EndsAs, EndsUnfailed, HasEnded}
 use Rattle.palm_cli.specs.Scripts.{IsBadScript}
 use Rattle.palm_cli.specs.Statuses.{code_of, names_fault}
 use Rattle.palm_cli.specs.Stops.{status_of}
@@ -79,7 +80,7 @@ is_of_code n status code = subst (λ (m : ℕ). IsOfCode m status) code (is_of_i
 -- ---- what words of the form say of an end
 
 -- The program ended so, by words of the form.
-pub record EndedAs (found : Option Settings) (status : Status) (o : Outside) (after : Tree) : Type 0 where
+record EndedAs (found : Option Settings) (status : Status) (o : Outside) (after : Tree) : Type 0 where
   pub settings : Settings
   pub form : found ≡ Some settings
   pub end : EndsAs settings status o after
@@ -95,12 +96,22 @@ ended_as : (other : Status) (found : Option Settings) (status : Status) (o : Out
 ended_as other found status o after usage memory is ended = formed found other o after usage memory (subst (λ (s : Status). HasEnded found s o after) is ended)
 
 -- What holds for the settings that were found holds where some were.
-pub where_some : (P : Settings → Type 0) (found : Option Settings) (settings : Settings) → found ≡ Some settings → P settings → IfSome found P
+where_some : (P : Settings → Type 0) (found : Option Settings) (settings : Settings) → found ≡ Some settings → P settings → IfSome found P
 where_some P found settings is p = subst (λ (x : Option Settings). IfSome x P) (sym is) p
 
-pub done_ended : (found : Option Settings) (status : Status) (o : Outside) (after : Tree) → HasEnded found status o after → code_of status ≡ 0 → EndedAs found Done o after
-done_ended found status o after ended code = ended_as Done found status o after (λ e. omega (arith, e)) (λ e. omega (arith, e)) (is_of_code 0 status code) ended
+-- 0: the source was read to its end, the rule's text was taken, neither failed, and no more steps were counted than all batches may take.
+pub done_ended : (found : Option Settings) (status : Status) (o : Outside) (after : Tree) → HasEnded found status o after → code_of status ≡ 0
+    → IfSome found (λ settings. IsDone settings.mode settings o.left o.taken o.now after) × IfSome found (λ settings. IsReadWhole settings.mode o.rest)
+    × ((o.reads_now ≡ o.reads_before) × (o.writes_now ≡ o.writes_before)) × IfSome found (λ settings. TookFew settings.mode settings o.left o.steps_before o.steps_now)
+done_ended found status o after ended code =
+    let e = ended_as Done found status o after (λ e. omega (arith, e)) (λ e. omega (arith, e)) (is_of_code 0 status code) ended in (
+      where_some _ found e.settings e.form e.end.0,
+      where_some _ found e.settings e.form e.end.1,
+      (e.end.2, e.end.3),
+      where_some _ found e.settings e.form e.end.4,
+    )
 
+-- 3: the script's first faulty line.
 pub line_ended : (found : Option Settings) (status : Status) (o : Outside) (after : Tree) → HasEnded found status o after → code_of status ≡ 3
     → (fault : LineFault) × (status ≡ BadLine fault) × IfSome found (λ settings. (settings.mode ≡ Replay) × IfSome o.left (λ b. IsBadScript settings b fault o.taken o.now after))
 line_ended found status o after ended code =
@@ -110,15 +121,29 @@ line_ended found status o after ended code =
     let said : Bad end.settings = (end.end.0, end.end.1) in
     (bad.0, bad.1, where_some Bad found end.settings end.form said)
 
-pub read_ended : (found : Option Settings) (status : Status) (o : Outside) (after : Tree) → HasEnded found status o after → code_of status ≡ 4 → EndedAs found ReadFault o after
-read_ended found status o after ended code = ended_as ReadFault found status o after (λ e. omega (arith, e)) (λ e. omega (arith, e)) (is_of_code 4 status code) ended
+-- 4: the source failed.
+pub read_ended : (found : Option Settings) (status : Status) (o : Outside) (after : Tree) → HasEnded found status o after → code_of status ≡ 4
+    → Rose o.reads_before o.reads_now
+    × IfSome found (λ settings. (read : List ℕ) × Consumes o.left o.rest read × IsCutShort settings.mode settings read o.taken o.now after)
+read_ended found status o after ended code =
+    let e = ended_as ReadFault found status o after (λ e. omega (arith, e)) (λ e. omega (arith, e)) (is_of_code 4 status code) ended in
+    (e.end.0, where_some _ found e.settings e.form e.end.1)
 
-pub write_ended : (found : Option Settings) (status : Status) (o : Outside) (after : Tree) → HasEnded found status o after → code_of status ≡ 5 → EndedAs found WriteFault o after
-write_ended found status o after ended code = ended_as WriteFault found status o after (λ e. omega (arith, e)) (λ e. omega (arith, e)) (is_of_code 5 status code) ended
+-- 5: the sink failed.
+pub write_ended : (found : Option Settings) (status : Status) (o : Outside) (after : Tree) → HasEnded found status o after → code_of status ≡ 5
+    → Rose o.writes_before o.writes_now × IfSome found (λ settings. HasStopped settings.mode settings o)
+write_ended found status o after ended code =
+    let e = ended_as WriteFault found status o after (λ e. omega (arith, e)) (λ e. omega (arith, e)) (is_of_code 5 status code) ended in
+    (e.end.0, where_some _ found e.settings e.form e.end.1)
 
-pub long_ended : (found : Option Settings) (status : Status) (o : Outside) (after : Tree) → HasEnded found status o after → code_of status ≡ 7 → EndedAs found TooLong o after
-long_ended found status o after ended code = ended_as TooLong found status o after (λ e. omega (arith, e)) (λ e. omega (arith, e)) (is_of_code 7 status code) ended
+-- 7: the source has too many bytes.
+pub long_ended : (found : Option Settings) (status : Status) (o : Outside) (after : Tree) → HasEnded found status o after → code_of status ≡ 7
+    → IfSome found (λ settings. IsLong settings.mode settings o.left o.taken o.now after)
+long_ended found status o after ended code =
+    let e = ended_as TooLong found status o after (λ e. omega (arith, e)) (λ e. omega (arith, e)) (is_of_code 7 status code) ended in
+    where_some _ found e.settings e.form e.end
 
+-- 8: the deck's first faulty record.
 pub row_ended : (found : Option Settings) (status : Status) (o : Outside) (after : Tree) → HasEnded found status o after → code_of status ≡ 8
     → (row : ℕ) × (why : DeckWhy) × (status ≡ BadRow row why) × IfSome found (λ settings. (settings.mode ≡ Deck) × IfSome o.left (λ b. IsBadDeck b row why))
 row_ended found status o after ended code =
@@ -128,11 +153,9 @@ row_ended found status o after ended code =
     let said : Bad end.settings = (end.end.0, end.end.1) in
     (bad.0, bad.1, bad.2, where_some Bad found end.settings end.form said)
 
--- Where the run was stopped, by a fault of the sink or for want of memory.
+-- 5 or 6: the run was stopped, by a fault of the sink or for want of memory.
 pub stop_ended : (found : Option Settings) (status : Status) (o : Outside) (after : Tree) → HasEnded found status o after → (code_of status ≡ 5) ⊎ (code_of status ≡ 6) → IfSome found (λ settings. HasStopped settings.mode settings o)
-stop_ended found status o after ended (inl code) =
-    let e = write_ended found status o after ended code in
-    where_some (λ (settings : Settings). HasStopped settings.mode settings o) found e.settings e.form e.end.1
+stop_ended found status o after ended (inl code) = (write_ended found status o after ended code).1
 stop_ended None status o after ended (inr code) = tt
 stop_ended (Some settings) status o after ended (inr code) = subst (λ (s : Status). EndsAs settings s o after) (is_of_code 6 status code) ended
 

@@ -1,27 +1,19 @@
 use Rattle.std.proofs.Common.{sym, ap, ◌∙◌}
 use Rattle.palm_cli.specs.Statuses.{status_text}
-use Rattle.palm_cli.proofs.Statuses.{done_ended, line_ended, read_ended, write_ended, long_ended, row_ended, stop_ended, usage_ended, refused_ended, complete_ended, where_some}
+use Rattle.palm_cli.proofs.Statuses.{done_ended, line_ended, read_ended, write_ended, long_ended, row_ended, stop_ended, usage_ended, refused_ended, complete_ended}
 use Rattle.palm_cli.proofs.palm.palm.Goals as goal
 
 pub returns-clause-good : goal.returns-clause-good
-returns-clause-good g c = λ is.
-    let end = done_ended _ _ _ _ c.run_and_tell-status.ensures.end (sym c.code.ensures ∙ is) in
-    where_some _ _ end.settings end.form end.end.0
+returns-clause-good g c = λ is. (done_ended _ _ _ _ c.run_and_tell-status.ensures.end (sym c.code.ensures ∙ is)).0
 
 pub returns-clause-whole : goal.returns-clause-whole
-returns-clause-whole g c = λ is.
-    let end = done_ended _ _ _ _ c.run_and_tell-status.ensures.end (sym c.code.ensures ∙ is) in
-    where_some _ _ end.settings end.form end.end.1
+returns-clause-whole g c = λ is. (done_ended _ _ _ _ c.run_and_tell-status.ensures.end (sym c.code.ensures ∙ is)).1
 
 pub returns-clause-kept : goal.returns-clause-kept
-returns-clause-kept g c = λ is.
-    let end = done_ended _ _ _ _ c.run_and_tell-status.ensures.end (sym c.code.ensures ∙ is) in
-    (end.end.2, end.end.3)
+returns-clause-kept g c = λ is. (done_ended _ _ _ _ c.run_and_tell-status.ensures.end (sym c.code.ensures ∙ is)).2
 
 pub returns-clause-ticks : goal.returns-clause-ticks
-returns-clause-ticks g c = λ is.
-    let end = done_ended _ _ _ _ c.run_and_tell-status.ensures.end (sym c.code.ensures ∙ is) in
-    where_some _ _ end.settings end.form end.end.4
+returns-clause-ticks g c = λ is. (done_ended _ _ _ _ c.run_and_tell-status.ensures.end (sym c.code.ensures ∙ is)).3
 
 pub returns-clause-usage : goal.returns-clause-usage
 returns-clause-usage g c = λ is. usage_ended _ _ _ _ c.run_and_tell-status.ensures.end (sym c.code.ensures ∙ is)
@@ -35,23 +27,19 @@ returns-clause-bad_line g c = λ is.
     (end.0, end.2, rw (← ap status_text end.1) c.run_and_tell-status.ensures.told)
 
 pub returns-clause-read : goal.returns-clause-read
-returns-clause-read g c = λ is. (read_ended _ _ _ _ c.run_and_tell-status.ensures.end (sym c.code.ensures ∙ is)).end.0
+returns-clause-read g c = λ is. (read_ended _ _ _ _ c.run_and_tell-status.ensures.end (sym c.code.ensures ∙ is)).0
 
 pub returns-clause-cut_short : goal.returns-clause-cut_short
-returns-clause-cut_short g c = λ is.
-    let end = read_ended _ _ _ _ c.run_and_tell-status.ensures.end (sym c.code.ensures ∙ is) in
-    where_some _ _ end.settings end.form end.end.1
+returns-clause-cut_short g c = λ is. (read_ended _ _ _ _ c.run_and_tell-status.ensures.end (sym c.code.ensures ∙ is)).1
 
 pub returns-clause-write : goal.returns-clause-write
-returns-clause-write g c = λ is. (write_ended _ _ _ _ c.run_and_tell-status.ensures.end (sym c.code.ensures ∙ is)).end.0
+returns-clause-write g c = λ is. (write_ended _ _ _ _ c.run_and_tell-status.ensures.end (sym c.code.ensures ∙ is)).0
 
 pub returns-clause-stopped : goal.returns-clause-stopped
 returns-clause-stopped g c = λ is. stop_ended _ _ _ _ c.run_and_tell-status.ensures.end (rw (← c.code.ensures) is)
 
 pub returns-clause-long : goal.returns-clause-long
-returns-clause-long g c = λ is.
-    let end = long_ended _ _ _ _ c.run_and_tell-status.ensures.end (sym c.code.ensures ∙ is) in
-    where_some _ _ end.settings end.form end.end
+returns-clause-long g c = λ is. long_ended _ _ _ _ c.run_and_tell-status.ensures.end (sym c.code.ensures ∙ is)
 
 pub returns-clause-bad_row : goal.returns-clause-bad_row
 returns-clause-bad_row g c = λ is.
