@@ -1,10 +1,12 @@
 -- How the mode `deck` ends, by how the deck was read and whether the table was written.
-use Rattle.std.proofs.Common.{◌≡◌, ℕ, ◌+◌, ◌≤◌, inr, List, Option, refl, sym, subst}
+use Rattle.std.proofs.Common.{◌≡◌, ℕ, zero, ◌+◌, ◌≤◌, inr, List, [], Option, refl, sym, ap, subst, ◌∙◌}
 use Rattle.std.specs.Prelude.{IfOk, Result}
 use Rattle.std.specs.Io.KnownBytes.{Appends}
-use Rattle.palm_base.specs.Tree.{Tree}
+use Rattle.palm_base.specs.History.{table_after}
+use Rattle.palm_base.specs.Tree.{Tree, rows_of}
 use Rattle.palm_base.specs.declared.call.Entry.{Entry}
-use Rattle.palm_deck.specs.Deck.{deck_of}
+use Rattle.palm_base.specs.declared.row.Row.{Row}
+use Rattle.palm_deck.specs.Deck.{deck_of, deck_text}
 use Rattle.palm_deck.specs.declared.deck.DeckFault.{DeckFault}
 use Rattle.palm_script.specs.Causes.{Rose}
 use Rattle.palm_words.specs.declared.settings.Mode.TheVariants.{Deck}
@@ -23,8 +25,13 @@ use Rattle.palm_cli.proofs.Statuses.{stop_ends}
 use Rattle.palm_cli.proofs.Stopped.{stopped_at_once}
 use Rattle.palm_cli.proofs.Wholes.{where_whole}
 
+-- The table that edits leave of the empty one makes the deck that they leave.
+pub table_text : (tree : Tree) (rows : List Row) (edits : List Entry) → rows ≡ table_after (rows_of tree) edits → tree ≡ (zero, []) → deck_text rows ≡ deck_left edits
+table_text tree rows edits is none = ap deck_text (is ∙ ap (λ (t : Tree). table_after (rows_of t) edits) none)
+
 -- No good deck was read, and nothing was written.
-pub no_deck_ends : (settings : Settings) (left rest taken : Option (List ℕ)) (before now writes steps : ℕ) (status : Status) (after : Tree) → IsNoDeck left rest before now status
+pub no_deck_ends : (settings : Settings) (left rest taken : Option (List ℕ)) (before now writes steps : ℕ) (status : Status) (after : Tree)
+    → IsNoDeck left rest before now status
     → EndsIn Deck settings status (record { left = left; rest = rest; taken = taken; now = taken; reads_before = before; reads_now = now; writes_before = writes; writes_now = writes; steps_before = steps; steps_now = steps }) after
 no_deck_ends settings left rest taken before now writes steps Done after unread = absurd unread
 no_deck_ends settings left rest taken before now writes steps Usage after unread = absurd unread
@@ -37,7 +44,8 @@ no_deck_ends settings left rest taken before now writes steps (BadRow row why) a
 
 -- The edits of a good deck were run, and the table that they leave was written.
 pub deck_ends : (settings : Settings) (o : Outside) (edits : List Entry) (after : Tree) → IsEdits o.left o.rest o.reads_before o.reads_now edits
-    → Appends o.taken o.now (deck_left edits) → after ≡ tree_left settings.batch edits → o.writes_now ≡ o.writes_before → o.steps_now ≤ o.steps_before + cost_left settings.batch edits
+    → Appends o.taken o.now (deck_left edits) → after ≡ tree_left settings.batch edits → o.writes_now ≡ o.writes_before
+    → o.steps_now ≤ o.steps_before + cost_left settings.batch edits
     → EndsIn Deck settings Done o after
 deck_ends settings o edits after read text tree kept few = (
   where_whole (λ (b : List ℕ). IsGoodDeck settings.batch b o.taken o.now after) o.left o.rest read.bytes read.whole read.end

@@ -29,10 +29,12 @@ pub run_leaves : (tree after : Tree) (run : List Section) (calls : ℕ) → tree
 run_leaves tree after run calls is came = sym (ap (λ (at : Progress). at.tree) (run_comes_to tree after run calls is came))
 
 -- The text of its sections is that of the run.
-pub run_text : (dump : DumpWhen) (tree : Tree) (run : List Section) (a b : Option (List ℕ)) → tree ≡ (zero, []) → Appends a b (sections_text dump (come_to 0 tree) run) → Appends a b (text_of dump run)
+pub run_text : (dump : DumpWhen) (tree : Tree) (run : List Section) (a b : Option (List ℕ))
+    → tree ≡ (zero, []) → Appends a b (sections_text dump (come_to 0 tree) run) → Appends a b (text_of dump run)
 run_text dump tree run a b is took = subst (λ (at : Progress). Appends a b (sections_text dump at run)) (begun tree is) took
 
-pub run_front : (dump : DumpWhen) (tree : Tree) (run : List Section) (a b : Option (List ℕ)) → tree ≡ (zero, []) → AppendsFront a b (sections_text dump (come_to 0 tree) run) → AppendsFront a b (text_of dump run)
+pub run_front : (dump : DumpWhen) (tree : Tree) (run : List Section) (a b : Option (List ℕ))
+    → tree ≡ (zero, []) → AppendsFront a b (sections_text dump (come_to 0 tree) run) → AppendsFront a b (text_of dump run)
 run_front dump tree run a b is took = subst (λ (at : Progress). AppendsFront a b (sections_text dump at run)) (begun tree is) took
 
 -- A front of it begins the transcript, with what stands at the end or without.

@@ -30,7 +30,8 @@ pub record Ran (settings : Settings) (outcome : Outcome) (ends : Bool) (old new 
   pub tree : after ≡ tree_said settings outcome
 
 -- the transcript of another outcome that is the same
-text_of_same : (settings : Settings) (outcome other : Outcome) (old new : Option (List ℕ)) → other ≡ outcome → Appends old new (text_said settings outcome) → Appends old new (text_said settings other)
+text_of_same : (settings : Settings) (outcome other : Outcome) (old new : Option (List ℕ))
+    → other ≡ outcome → Appends old new (text_said settings outcome) → Appends old new (text_said settings other)
 text_of_same settings outcome other old new same text = subst (λ (o : Outcome). Appends old new (text_said settings o)) (sym same) text
 
 tree_of_same : (settings : Settings) (outcome other : Outcome) (after : Tree) → other ≡ outcome → after ≡ tree_said settings outcome → after ≡ tree_said settings other
@@ -40,7 +41,8 @@ tree_of_same settings outcome other after same tree = tree ∙ ap (tree_said set
 
 -- The source was read to its end.
 pub good_script : (settings : Settings) (left rest : Option (List ℕ)) (before now : ℕ) (bytes : List ℕ) (end : InputEnd) (outcome : Outcome) (ends : Bool) (old new : Option (List ℕ)) (after : Tree)
-    → end ≡ Whole → IsRead left rest before now bytes end → length bytes ≤ MOST_BYTES → script_of bytes (is_whole end) ≡ outcome → outcome.fault ≡ None → ends ≡ is_whole end && is_none outcome.fault
+    → end ≡ Whole → IsRead left rest before now bytes end → length bytes ≤ MOST_BYTES → script_of bytes (is_whole end) ≡ outcome → outcome.fault ≡ None
+    → ends ≡ is_whole end && is_none outcome.fault
     → Ran settings outcome ends old new after → IfSome left (λ b. IsGoodScript settings b old new after) × IsAtEnd rest × (now ≡ before)
 good_script settings left rest before now bytes Whole outcome ends old new after end read most same none ends-is ran =
     let finished : ends ≡ true = ends-is ∙ ap is_none none in
@@ -88,7 +90,8 @@ longer most b bytes more rest is size one =
 
 -- The source has a byte too many.
 pub long_script : (settings : Settings) (left rest : Option (List ℕ)) (before now : ℕ) (bytes : List ℕ) (end : InputEnd) (outcome : Outcome) (ends : Bool) (old new : Option (List ℕ)) (after : Tree)
-    → end ≡ Long → IsRead left rest before now bytes end → length bytes ≤ MOST_BYTES → script_of bytes (is_whole end) ≡ outcome → outcome.fault ≡ None → ends ≡ is_whole end && is_none outcome.fault
+    → end ≡ Long → IsRead left rest before now bytes end → length bytes ≤ MOST_BYTES → script_of bytes (is_whole end) ≡ outcome → outcome.fault ≡ None
+    → ends ≡ is_whole end && is_none outcome.fault
     → Ran settings outcome ends old new after → IfSome left (λ b. IsLongScript settings b old new after)
 long_script settings None rest before now bytes Long outcome ends old new after end read most same none ends-is ran = tt
 long_script settings (Some b) None before now bytes Long outcome ends old new after end read most same none ends-is ran = absurd read.1
@@ -110,8 +113,10 @@ take_past n b xs ys e h =
     let k : n ≡ length xs + (n - length xs) = omega arith in
     ap (take n) e ∙ ap (λ (m : ℕ). take m (xs ++ ys)) k ∙ take-append-add xs ys (n - length xs)
 
-found : (settings : Settings) (b : List ℕ) (outcome : Outcome) (fault : LineFault) (old new : Option (List ℕ)) (after : Tree) → script_of b true ≡ outcome → outcome.fault ≡ Some fault
-    → (length b ≤ MOST_BYTES) ⊎ ((script_of (take MOST_BYTES b) false).fault ≡ Some fault) → Appends old new (text_said settings outcome) → after ≡ tree_said settings outcome → IsBadScript settings b fault old new after
+found : (settings : Settings) (b : List ℕ) (outcome : Outcome) (fault : LineFault) (old new : Option (List ℕ)) (after : Tree)
+    → script_of b true ≡ outcome → outcome.fault ≡ Some fault
+    → (length b ≤ MOST_BYTES) ⊎ ((script_of (take MOST_BYTES b) false).fault ≡ Some fault) → Appends old new (text_said settings outcome)
+    → after ≡ tree_said settings outcome → IsBadScript settings b fault old new after
 found settings b outcome fault old new after same first ended text tree = record {
   first = ap (λ (o : Outcome). o.fault) same ∙ first;
   ended = ended;
@@ -120,8 +125,10 @@ found settings b outcome fault old new after same first ended text tree = record
 }
 
 -- The faulty line that was read is the script's first, whatever was left unread.
-pub bad_script : FaultsStand → (settings : Settings) (left rest : Option (List ℕ)) (before now : ℕ) (bytes : List ℕ) (end : InputEnd) (outcome : Outcome) (ends : Bool) (fault : LineFault) (old new : Option (List ℕ)) (after : Tree)
-    → IsRead left rest before now bytes end → length bytes ≤ MOST_BYTES → script_of bytes (is_whole end) ≡ outcome → outcome.fault ≡ Some fault → ends ≡ is_whole end && is_none outcome.fault
+pub bad_script : FaultsStand
+    → (settings : Settings) (left rest : Option (List ℕ)) (before now : ℕ) (bytes : List ℕ) (end : InputEnd) (outcome : Outcome) (ends : Bool) (fault : LineFault) (old new : Option (List ℕ)) (after : Tree)
+    → IsRead left rest before now bytes end → length bytes ≤ MOST_BYTES → script_of bytes (is_whole end) ≡ outcome → outcome.fault ≡ Some fault
+    → ends ≡ is_whole end && is_none outcome.fault
     → Ran settings outcome ends old new after → IfSome left (λ b. IsBadScript settings b fault old new after)
 bad_script stands settings None rest before now bytes end outcome ends fault old new after read most same first ends-is ran = tt
 bad_script stands settings (Some b) None before now bytes Whole outcome ends fault old new after read most same first ends-is ran = absurd read.0
@@ -149,7 +156,8 @@ bad_script stands settings (Some b) (Some r) before now bytes Long outcome ends 
 -- ---- all ends
 
 -- No more steps were counted than the batches of the whole script may take.
-few_steps : (settings : Settings) (left rest : Option (List ℕ)) (before now : ℕ) (bytes : List ℕ) (outcome : Outcome) (s0 s1 : ℕ) → IsRead left rest before now bytes Whole → script_of bytes true ≡ outcome
+few_steps : (settings : Settings) (left rest : Option (List ℕ)) (before now : ℕ) (bytes : List ℕ) (outcome : Outcome) (s0 s1 : ℕ)
+    → IsRead left rest before now bytes Whole → script_of bytes true ≡ outcome
     → s1 ≤ s0 + run_cost (run_of settings outcome) → IfSome left (λ b. s1 ≤ s0 + run_cost (run_of settings (script_of b true)))
 few_steps settings left rest before now bytes outcome s0 s1 read same few =
     where_whole (λ (b : List ℕ). s1 ≤ s0 + run_cost (run_of settings (script_of b true))) left rest bytes read.0 read.1
@@ -157,8 +165,10 @@ few_steps settings left rest before now bytes outcome s0 s1 read same few =
 
 -- Where all was run that was read of a script.
 pub run_ends : FaultsStand → (settings : Settings) (o : Outside) (bytes : List ℕ) (end : InputEnd) (outcome : Outcome) (ends : Bool) (after : Tree)
-    → IsRead o.left o.rest o.reads_before o.reads_now bytes end → length bytes ≤ MOST_BYTES → script_of bytes (is_whole end) ≡ outcome → ends ≡ is_whole end && is_none outcome.fault
-    → Ran settings outcome ends o.taken o.now after → o.writes_now ≡ o.writes_before → o.steps_now ≤ o.steps_before + run_cost (run_of settings outcome) → (fault : Option LineFault) → outcome.fault ≡ fault → EndsIn Replay settings (ended_by fault end) o after
+    → IsRead o.left o.rest o.reads_before o.reads_now bytes end → length bytes ≤ MOST_BYTES → script_of bytes (is_whole end) ≡ outcome
+    → ends ≡ is_whole end && is_none outcome.fault
+    → Ran settings outcome ends o.taken o.now after → o.writes_now ≡ o.writes_before → o.steps_now ≤ o.steps_before + run_cost (run_of settings outcome)
+    → (fault : Option LineFault) → outcome.fault ≡ fault → EndsIn Replay settings (ended_by fault end) o after
 run_ends stands settings o bytes end outcome ends after read most same ends-is ran kept few (Some fault) is = (
   refl,
   bad_script stands settings o.left o.rest o.reads_before o.reads_now bytes end outcome ends fault o.taken o.now after read most same is ends-is ran,

@@ -62,7 +62,6 @@ pub script_stops : (settings : Settings) (stop : Stop) (o : Outside) (bytes : Li
     → (stop ≡ Write → Rose o.writes_before o.writes_now) → EndsIn Replay settings (status_of stop) o after
 script_stops settings stop o bytes end script ends after read most says finished front rose =
     let outcome : Outcome = script_of bytes (is_whole end) in
+    let finish = said_finished outcome script (is_whole end) ends says finished in
     let begun = subst (λ (run : List Section). AppendsFront o.taken o.now (text_to settings.dump ends run)) (said_run settings outcome script says) front in
-    stop_ends Replay settings stop o after rose (
-    stopped settings o.left o.rest o.taken o.now o.reads_before o.reads_now bytes end outcome ends read most refl (said_finished outcome script (is_whole end) ends says finished) begun
-    )
+    stop_ends Replay settings stop o after rose (stopped settings o.left o.rest o.taken o.now o.reads_before o.reads_now bytes end outcome ends read most refl finish begun)

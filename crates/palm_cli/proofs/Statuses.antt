@@ -22,7 +22,8 @@ use Rattle.palm_cli.specs.declared.status.Status.TheVariants.{Done, Usage, BadLi
 use Rattle.palm_cli.proofs.Stopped.{stopped_at_once}
 
 -- The run stopped for this.
-pub stop_ends : (mode : Mode) (settings : Settings) (stop : Stop) (o : Outside) (after : Tree) → (stop ≡ stops.Write → Rose o.writes_before o.writes_now) → HasStopped mode settings o
+pub stop_ends : (mode : Mode) (settings : Settings) (stop : Stop) (o : Outside) (after : Tree)
+    → (stop ≡ stops.Write → Rose o.writes_before o.writes_now) → HasStopped mode settings o
     → EndsIn mode settings (status_of stop) o after
 stop_ends mode settings stops.Memory o after rose stopped = stopped
 stop_ends mode settings stops.Write o after rose stopped = (rose refl, stopped)
@@ -34,7 +35,8 @@ memory_ends None left taken reads writes steps after = inr refl
 memory_ends (Some settings) left taken reads writes steps after = ([], Consumes-nil left, stopped_at_once settings.mode settings [] left taken)
 
 -- For the line of a fault memory may be refused in the end.
-refused_line : (settings : Settings) (status : Status) (o : Outside) (after : Tree) → names_fault status ≡ true → EndsAs settings status o after → EndsAs settings NoMemory o after
+refused_line : (settings : Settings) (status : Status) (o : Outside) (after : Tree)
+    → names_fault status ≡ true → EndsAs settings status o after → EndsAs settings NoMemory o after
 refused_line settings (BadLine fault) o after names ended = ended.2
 refused_line settings (BadRow row why) o after names ended = ended.2
 refused_line settings Done o after names ended = cc
@@ -44,7 +46,8 @@ refused_line settings WriteFault o after names ended = cc
 refused_line settings NoMemory o after names ended = cc
 refused_line settings TooLong o after names ended = cc
 
-pub told_ends : (found : Option Settings) (status told : Status) (o : Outside) (after : Tree) → (told ≡ status) ⊎ ((told ≡ NoMemory) × (names_fault status ≡ true)) → HasEnded found status o after → HasEnded found told o after
+pub told_ends : (found : Option Settings) (status told : Status) (o : Outside) (after : Tree)
+    → (told ≡ status) ⊎ ((told ≡ NoMemory) × (names_fault status ≡ true)) → HasEnded found status o after → HasEnded found told o after
 told_ends found status told o after (inl same) ended = subst (λ (s : Status). HasEnded found s o after) (sym same) ended
 told_ends None status told o after (inr refused) ended = inr refused.0
 told_ends (Some settings) status told o after (inr refused) ended =
@@ -86,13 +89,15 @@ record EndedAs (found : Option Settings) (status : Status) (o : Outside) (after 
   pub end : EndsAs settings status o after
 
 -- They are of the form where the status isn't one of a refusal.
-formed : (found : Option Settings) (status : Status) (o : Outside) (after : Tree) → (code_of status ≡ 2 → ⊥) → (code_of status ≡ 6 → ⊥) → HasEnded found status o after → EndedAs found status o after
+formed : (found : Option Settings) (status : Status) (o : Outside) (after : Tree)
+    → (code_of status ≡ 2 → ⊥) → (code_of status ≡ 6 → ⊥) → HasEnded found status o after → EndedAs found status o after
 formed None status o after usage memory (inl is) = absurd (usage (ap code_of is))
 formed None status o after usage memory (inr is) = absurd (memory (ap code_of is))
 formed (Some settings) status o after usage memory ended = record { settings = settings; form = refl; end = ended }
 
 -- A status that is no refusal was given by words of the form, and says how the program ended.
-ended_as : (other : Status) (found : Option Settings) (status : Status) (o : Outside) (after : Tree) → (code_of other ≡ 2 → ⊥) → (code_of other ≡ 6 → ⊥) → status ≡ other → HasEnded found status o after → EndedAs found other o after
+ended_as : (other : Status) (found : Option Settings) (status : Status) (o : Outside) (after : Tree)
+    → (code_of other ≡ 2 → ⊥) → (code_of other ≡ 6 → ⊥) → status ≡ other → HasEnded found status o after → EndedAs found other o after
 ended_as other found status o after usage memory is ended = formed found other o after usage memory (subst (λ (s : Status). HasEnded found s o after) is ended)
 
 -- What holds for the settings that were found holds where some were.
@@ -104,11 +109,11 @@ pub done_ended : (found : Option Settings) (status : Status) (o : Outside) (afte
     → IfSome found (λ settings. IsDone settings.mode settings o.left o.taken o.now after) × IfSome found (λ settings. IsReadWhole settings.mode o.rest)
     × ((o.reads_now ≡ o.reads_before) × (o.writes_now ≡ o.writes_before)) × IfSome found (λ settings. TookFew settings.mode settings o.left o.steps_before o.steps_now)
 done_ended found status o after ended code =
-    let e = ended_as Done found status o after (λ e. omega (arith, e)) (λ e. omega (arith, e)) (is_of_code 0 status code) ended in (
-      where_some _ found e.settings e.form e.end.0,
-      where_some _ found e.settings e.form e.end.1,
-      (e.end.2, e.end.3),
-      where_some _ found e.settings e.form e.end.4,
+    let end = ended_as Done found status o after (λ e. omega (arith, e)) (λ e. omega (arith, e)) (is_of_code 0 status code) ended in (
+      where_some _ found end.settings end.form end.end.0,
+      where_some _ found end.settings end.form end.end.1,
+      (end.end.2, end.end.3),
+      where_some _ found end.settings end.form end.end.4,
     )
 
 -- 3: the script's first faulty line.
@@ -126,22 +131,22 @@ pub read_ended : (found : Option Settings) (status : Status) (o : Outside) (afte
     → Rose o.reads_before o.reads_now
     × IfSome found (λ settings. (read : List ℕ) × Consumes o.left o.rest read × IsCutShort settings.mode settings read o.taken o.now after)
 read_ended found status o after ended code =
-    let e = ended_as ReadFault found status o after (λ e. omega (arith, e)) (λ e. omega (arith, e)) (is_of_code 4 status code) ended in
-    (e.end.0, where_some _ found e.settings e.form e.end.1)
+    let end = ended_as ReadFault found status o after (λ e. omega (arith, e)) (λ e. omega (arith, e)) (is_of_code 4 status code) ended in
+    (end.end.0, where_some _ found end.settings end.form end.end.1)
 
 -- 5: the sink failed.
 pub write_ended : (found : Option Settings) (status : Status) (o : Outside) (after : Tree) → HasEnded found status o after → code_of status ≡ 5
     → Rose o.writes_before o.writes_now × IfSome found (λ settings. HasStopped settings.mode settings o)
 write_ended found status o after ended code =
-    let e = ended_as WriteFault found status o after (λ e. omega (arith, e)) (λ e. omega (arith, e)) (is_of_code 5 status code) ended in
-    (e.end.0, where_some _ found e.settings e.form e.end.1)
+    let end = ended_as WriteFault found status o after (λ e. omega (arith, e)) (λ e. omega (arith, e)) (is_of_code 5 status code) ended in
+    (end.end.0, where_some _ found end.settings end.form end.end.1)
 
 -- 7: the source has too many bytes.
 pub long_ended : (found : Option Settings) (status : Status) (o : Outside) (after : Tree) → HasEnded found status o after → code_of status ≡ 7
     → IfSome found (λ settings. IsLong settings.mode settings o.left o.taken o.now after)
 long_ended found status o after ended code =
-    let e = ended_as TooLong found status o after (λ e. omega (arith, e)) (λ e. omega (arith, e)) (is_of_code 7 status code) ended in
-    where_some _ found e.settings e.form e.end
+    let end = ended_as TooLong found status o after (λ e. omega (arith, e)) (λ e. omega (arith, e)) (is_of_code 7 status code) ended in
+    where_some _ found end.settings end.form end.end
 
 -- 8: the deck's first faulty record.
 pub row_ended : (found : Option Settings) (status : Status) (o : Outside) (after : Tree) → HasEnded found status o after → code_of status ≡ 8
@@ -154,7 +159,8 @@ row_ended found status o after ended code =
     (bad.0, bad.1, bad.2, where_some Bad found end.settings end.form said)
 
 -- 5 or 6: the run was stopped, by a fault of the sink or for want of memory.
-pub stop_ended : (found : Option Settings) (status : Status) (o : Outside) (after : Tree) → HasEnded found status o after → (code_of status ≡ 5) ⊎ (code_of status ≡ 6) → IfSome found (λ settings. HasStopped settings.mode settings o)
+pub stop_ended : (found : Option Settings) (status : Status) (o : Outside) (after : Tree)
+    → HasEnded found status o after → (code_of status ≡ 5) ⊎ (code_of status ≡ 6) → IfSome found (λ settings. HasStopped settings.mode settings o)
 stop_ended found status o after ended (inl code) = (write_ended found status o after ended code).1
 stop_ended None status o after ended (inr code) = tt
 stop_ended (Some settings) status o after ended (inr code) = subst (λ (s : Status). EndsAs settings s o after) (is_of_code 6 status code) ended
@@ -164,7 +170,8 @@ pub usage_ended : (found : Option Settings) (status : Status) (o : Outside) (aft
 usage_ended None status o after ended code = refl
 usage_ended (Some settings) status o after ended code = absurd (subst (λ (s : Status). EndsAs settings s o after) (is_of_code 2 status code) ended)
 
-pub refused_ended : (found : Option Settings) (status : Status) (o : Outside) (after : Tree) → HasEnded found status o after → found ≡ None → (code_of status ≡ 2) ⊎ (code_of status ≡ 6)
+pub refused_ended : (found : Option Settings) (status : Status) (o : Outside) (after : Tree)
+    → HasEnded found status o after → found ≡ None → (code_of status ≡ 2) ⊎ (code_of status ≡ 6)
 refused_ended None status o after (inl is) none = inl (ap code_of is)
 refused_ended None status o after (inr is) none = inr (ap code_of is)
 refused_ended (Some settings) status o after ended none = cc

@@ -26,10 +26,16 @@ taken_back most bytes more few size = take-append-le most bytes more (omega (ari
 all_front : (settings : Settings) (outcome : Outcome) (old new : Option (List ℕ))
     → AppendsFront old new (text_to settings.dump (true && is_none outcome.fault) (run_of settings outcome)) → AppendsFront old new (all_said settings outcome)
 all_front settings outcome old new took =
-    elim outcome.fault as (λ f. AppendsFront old new (text_to settings.dump (true && is_none f) (run_of settings outcome)) → AppendsFront old new (cond (is_some f) (text_said settings outcome) (final_said settings outcome))) [
+    elim outcome.fault as (λ f. AppendsFront old new (text_to settings.dump (true && is_none f) (run_of settings outcome))
+    → AppendsFront old new (cond (is_some f) (text_said settings outcome) (final_said settings outcome))) [
       | None ↦ λ t. t
       | Some fault ↦ λ t. t
     ] took
+
+-- a front of the transcript, by whether it has an end
+as_far : (settings : Settings) (outcome : Outcome) (old new : Option (List ℕ)) {ends finished : Bool} → ends ≡ finished
+    → AppendsFront old new (text_to settings.dump ends (run_of settings outcome)) → AppendsFront old new (text_to settings.dump finished (run_of settings outcome))
+as_far settings outcome old new is took = subst (λ (e : Bool). AppendsFront old new (text_to settings.dump e (run_of settings outcome))) is took
 
 -- What was taken of the transcript of what was read.
 pub stopped : (settings : Settings) (left rest old new : Option (List ℕ)) (before now : ℕ) (bytes : List ℕ) (end : InputEnd) (outcome : Outcome) (ends : Bool)
@@ -42,16 +48,16 @@ stopped settings left rest old new before now bytes Whole outcome ends read most
   inr (
     read.1,
     most,
-    subst (λ (o : Outcome). AppendsFront old new (all_said settings o)) (sym same) (all_front settings outcome old new (subst (λ (e : Bool). AppendsFront old new (text_to settings.dump e (run_of settings outcome))) ends-is took)),
+    subst (λ (o : Outcome). AppendsFront old new (all_said settings o)) (sym same) (all_front settings outcome old new (as_far settings outcome old new ends-is took)),
   ),
 )
 stopped settings left rest old new before now bytes Failed outcome ends read most same ends-is took =
     let all : script_of (take MOST_BYTES bytes) false ≡ outcome = ap (λ (l : List ℕ). script_of l false) (take_all MOST_BYTES bytes most) ∙ same in
-    (bytes, read.0, inl (subst (λ (o : Outcome). AppendsFront old new (text_said settings o)) (sym all) (subst (λ (e : Bool). AppendsFront old new (text_to settings.dump e (run_of settings outcome))) ends-is took)))
+    (bytes, read.0, inl (subst (λ (o : Outcome). AppendsFront old new (text_said settings o)) (sym all) (as_far settings outcome old new ends-is took)))
 stopped settings left rest old new before now bytes Long outcome ends read most same ends-is took =
     let front : take MOST_BYTES (bytes ++ read.0) ≡ bytes = taken_back MOST_BYTES bytes read.0 most read.2 in
     let all : script_of (take MOST_BYTES (bytes ++ read.0)) false ≡ outcome = ap (λ (l : List ℕ). script_of l false) front ∙ same in
-    (bytes ++ read.0, read.1, inl (subst (λ (o : Outcome). AppendsFront old new (text_said settings o)) (sym all) (subst (λ (e : Bool). AppendsFront old new (text_to settings.dump e (run_of settings outcome))) ends-is took)))
+    (bytes ++ read.0, read.1, inl (subst (λ (o : Outcome). AppendsFront old new (text_said settings o)) (sym all) (as_far settings outcome old new ends-is took)))
 
 -- Nothing was taken.
 pub stopped_at_once : (mode : Mode) (settings : Settings) (read : List ℕ) (rest old : Option (List ℕ)) → IsStopped mode settings read rest old old

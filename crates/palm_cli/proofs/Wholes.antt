@@ -13,7 +13,8 @@ where_whole P (Some b) (Some r) bytes read end p =
     subst P (sym whole) p
 
 -- Of a source that has more than so many bytes one more was read.
-pub where_longer : (most : ℕ) (left rest : Option (List ℕ)) (bytes more : List ℕ) → Consumes left rest (bytes ++ more) → length bytes ≡ most → length more ≡ 1 → IfSome left (λ b. most < length b)
+pub where_longer : (most : ℕ) (left rest : Option (List ℕ)) (bytes more : List ℕ)
+    → Consumes left rest (bytes ++ more) → length bytes ≡ most → length more ≡ 1 → IfSome left (λ b. most < length b)
 where_longer most None rest bytes more read size one = tt
 where_longer most (Some b) None bytes more read size one = absurd read
 where_longer most (Some b) (Some r) bytes more read size one =

@@ -1,15 +1,11 @@
-use Rattle.std.proofs.Common.{◌≡◌, List, ap, subst, ◌∙◌}
+use Rattle.std.proofs.Common.{subst}
 use Rattle.std.specs.Io.KnownBytes.{Appends}
 use Rattle.std.proofs.lemmas.Result.{on_ok_weaker, on_err_weaker}
-use Rattle.palm_base.specs.History.{table_after}
-use Rattle.palm_base.specs.Tree.{Tree, rows_of}
-use Rattle.palm_base.specs.declared.row.Row.{Row}
-use Rattle.palm_deck.specs.Deck.{deck_text}
 use Rattle.palm_tree.specs.TreeValue.{tree_in}
 use Rattle.palm_cli.specs.Decks.{deck_left}
 use Rattle.palm_cli.specs.Streams.{AppendsFront}
-use Rattle.palm_cli.specs.Tables.{table_left}
 use Rattle.palm_base.proofs.EmptyTree.{empty_is_lawful}
+use Rattle.palm_cli.proofs.DeckEnds.{table_text}
 use Rattle.palm_cli.proofs.Fronts.{on_err, front_none}
 use Rattle.palm_cli.proofs.deck.run_deck.Goals as goal
 
@@ -21,12 +17,10 @@ returns-in_err-run_edits-clause-front g c = on_err c.from_residual.result (front
 
 pub returns-clause-text : goal.returns-clause-text
 returns-clause-text g c =
-    let edits = c.args.edits.now in
-    let rows : rows_of (tree_in c.run_edits.new.engine.tree) ≡ table_left edits = c.in_ok-run_edits.ensures.rows ∙ ap (λ (t : Tree). table_after (rows_of t) edits) c.requires.new in
-    on_ok_weaker c.write_table.result (λ took. subst (λ (r : List Row). Appends (g.O.Sink.taken c.args.out.now) (g.O.Sink.taken c.write_table.new.out) (deck_text r)) rows took) c.write_table.ensures.text
+    let said = table_text (tree_in c.args.engine.now.tree) _ c.args.edits.now c.in_ok-run_edits.ensures.rows c.requires.new in
+    on_ok_weaker c.write_table.result (λ took. subst (Appends (g.O.Sink.taken c.args.out.now) (g.O.Sink.taken c.write_table.new.out)) said took) c.write_table.ensures.text
 
 pub returns-clause-front : goal.returns-clause-front
 returns-clause-front g c =
-    let edits = c.args.edits.now in
-    let rows : rows_of (tree_in c.run_edits.new.engine.tree) ≡ table_left edits = c.in_ok-run_edits.ensures.rows ∙ ap (λ (t : Tree). table_after (rows_of t) edits) c.requires.new in
-    on_err_weaker c.write_table.result (λ took. subst (λ (r : List Row). AppendsFront (g.O.Sink.taken c.args.out.now) (g.O.Sink.taken c.write_table.new.out) (deck_text r)) rows took) c.write_table.ensures.front
+    let said = table_text (tree_in c.args.engine.now.tree) _ c.args.edits.now c.in_ok-run_edits.ensures.rows c.requires.new in
+    on_err_weaker c.write_table.result (λ took. subst (AppendsFront (g.O.Sink.taken c.args.out.now) (g.O.Sink.taken c.write_table.new.out)) said took) c.write_table.ensures.front

@@ -7,4 +7,6 @@ use Rattle.palm_cli.proofs.palm.run_and_tell.Goals as goal
 
 pub returns-clause-end : goal.returns-clause-end
 returns-clause-end g c =
-    told_ends (settings_of (map string_bytes c.args.words.now.items)) c.run_words-status.result c.tell.result _ (tree_in c.run_words-status.new.engine.tree) c.tell.ensures.same c.run_words-status.ensures.end
+    let found = settings_of (map string_bytes c.args.words.now.items) in
+    let after = tree_in c.run_words-status.new.engine.tree in
+    told_ends found c.run_words-status.result c.tell.result _ after c.tell.ensures.same c.run_words-status.ensures.end

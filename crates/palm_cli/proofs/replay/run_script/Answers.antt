@@ -22,7 +22,9 @@ pub returns-then-not-ends-clause-text : goal.returns-then-not-ends-clause-text
 returns-then-not-ends-clause-text g c =
     let run = sections_by c.args.settings.now.batch c.deref.result.now c.deref-2.result.now in
     let dump = c.args.settings.now.dump in
-    rw (← c.deref.ensures.value, ← c.deref-2.ensures.value, c.if-not-ends.true) (run_text dump (tree_in c.args.engine.now.tree) run _ _ c.requires.new c.in_ok-run_sections.ensures.text)
+    rw (← c.deref.ensures.value, ← c.deref-2.ensures.value, c.if-not-ends.true) (
+    run_text dump (tree_in c.args.engine.now.tree) run _ _ c.requires.new c.in_ok-run_sections.ensures.text
+    )
 
 pub returns-then-not-ends-clause-tree : goal.returns-then-not-ends-clause-tree
 returns-then-not-ends-clause-tree g c =
@@ -34,22 +36,24 @@ returns-then-not-ends-clause-tree g c =
 pub returns-clause-text : goal.returns-clause-text
 returns-clause-text g c =
     let run = sections_by c.args.settings.now.batch c.deref.result.now c.deref-2.result.now in
+    let after = tree_in c.run_sections.new.engine.tree in
     let many = c.deref.ensures.len ∙ sym c.len-calls.ensures in
     let ran = c.in_ok-run_sections.ensures in
     rw (← c.deref.ensures.value, ← c.deref-2.ensures.value, c.if-not-ends.false) (
     on_ok_weaker c.write_ending.result
-    (λ took. text_ended c.args.settings.now.dump (tree_in c.args.engine.now.tree) (tree_in c.run_sections.new.engine.tree) run _ _ _ _ _ c.requires.new ran.after many ran.text took)
+    (λ took. text_ended c.args.settings.now.dump (tree_in c.args.engine.now.tree) after run _ _ _ _ _ c.requires.new ran.after many ran.text took)
     c.write_ending.ensures.text
     )
 
 pub returns-clause-front : goal.returns-clause-front
 returns-clause-front g c =
     let run = sections_by c.args.settings.now.batch c.deref.result.now c.deref-2.result.now in
+    let after = tree_in c.run_sections.new.engine.tree in
     let many = c.deref.ensures.len ∙ sym c.len-calls.ensures in
     let ran = c.in_ok-run_sections.ensures in
     rw (← c.deref.ensures.value, ← c.deref-2.ensures.value, c.if-not-ends.false) (
     on_err_weaker c.write_ending.result
-    (λ took. end_front c.args.settings.now.dump (tree_in c.args.engine.now.tree) (tree_in c.run_sections.new.engine.tree) run _ _ _ _ _ c.requires.new ran.after many ran.text took)
+    (λ took. end_front c.args.settings.now.dump (tree_in c.args.engine.now.tree) after run _ _ _ _ _ c.requires.new ran.after many ran.text took)
     c.write_ending.ensures.front
     )
 

@@ -33,7 +33,8 @@ pub returns-clause-text : goal.returns-clause-text
 returns-clause-text g c =
     let at = come_to c.loop-end.n (tree_in c.loop-end.engine.tree) in
     let last = last_section c.args.settings.now.batch c.loop-end.rest.now c.args.ends.now c.loop-end.end-index c.loop-end-test.false in
-    on_ok_weaker c.run_section-2.result (λ took. but_nothing _ _ (section_written c.args.settings.now.dump at _ _ _ last refl c.loop-end.invariant.written took)) c.run_section-2.ensures.text
+    let old = c.loop-end.invariant.written in
+    on_ok_weaker c.run_section-2.result (λ took. but_nothing _ _ (section_written c.args.settings.now.dump at _ _ _ last refl old took)) c.run_section-2.ensures.text
 
 pub returns-clause-front : goal.returns-clause-front
 returns-clause-front g c =
