@@ -17,8 +17,8 @@ use Rattle.palm_cli.specs.Reads.{IsEdits, IsNoDeck}
 use Rattle.palm_cli.specs.Stops.{status_of}
 use Rattle.palm_cli.specs.Streams.{AppendsFront}
 use Rattle.palm_cli.specs.Tables.{tree_left, cost_left}
-use Rattle.palm_cli.specs.declared.run.Stop.{Stop}
-use Rattle.palm_cli.specs.declared.run.Stop.TheVariants.{Write}
+use Rattle.palm_cli.specs.declared.stop.Stop.{Stop}
+use Rattle.palm_cli.specs.declared.stop.Stop.TheVariants.{Write}
 use Rattle.palm_cli.specs.declared.status.Status.{Status}
 use Rattle.palm_cli.specs.declared.status.Status.TheVariants.{Done, Usage, BadLine, ReadFault, WriteFault, NoMemory, TooLong, BadRow}
 use Rattle.palm_cli.proofs.Statuses.{stop_ends}

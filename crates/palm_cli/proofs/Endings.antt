@@ -4,12 +4,7 @@ use Rattle.std.specs.Io.KnownBytes.{Appends}
 use Rattle.std.proofs.KnownBytes.{Appends-trans}
 use Rattle.std.proofs.lemmas.List.{append-nil}
 use Rattle.palm_base.specs.Tree.{Tree}
-use Rattle.palm_script.specs.Transcript.{Progress, Section, begin, come_to, after_run, after_sections, sections_text, text_of, final_of, ending, sections_by}
-use Rattle.palm_script.specs.Script.{Outcome, Says, entries_from}
-use Rattle.palm_script.specs.declared.script.Script.{Script}
-use Rattle.palm_words.specs.declared.settings.Settings.{Settings}
-use Rattle.palm_base.specs.declared.call.Entry.{Entry}
-use Rattle.palm_cli.specs.Scripts.{run_of, tree_said}
+use Rattle.palm_script.specs.Transcript.{Progress, Section, begin, come_to, after_run, after_sections, sections_text, text_of, final_of, ending}
 use Rattle.palm_script.specs.declared.dump.DumpWhen.{DumpWhen}
 use Rattle.palm_cli.specs.Costs.{sections_cost, run_cost}
 use Rattle.palm_cli.specs.Streams.{AppendsFront, text_to}

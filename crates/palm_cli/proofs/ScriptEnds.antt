@@ -17,11 +17,11 @@ use Rattle.palm_words.specs.declared.settings.Mode.TheVariants.{Replay}
 use Rattle.palm_words.specs.declared.settings.Settings.{Settings}
 use Rattle.palm_cli.specs.Costs.{run_cost}
 use Rattle.palm_cli.specs.Ends.{Outside, EndsIn}
-use Rattle.palm_cli.specs.Scripts.{run_of, tree_said}
+use Rattle.palm_cli.specs.Scripts.{run_of}
 use Rattle.palm_cli.specs.Stops.{ended_by, status_of}
 use Rattle.palm_cli.specs.Streams.{AppendsFront, text_to}
-use Rattle.palm_cli.specs.declared.run.Stop.{Stop}
-use Rattle.palm_cli.specs.declared.run.Stop.TheVariants.{Write}
+use Rattle.palm_cli.specs.declared.stop.Stop.{Stop}
+use Rattle.palm_cli.specs.declared.stop.Stop.TheVariants.{Write}
 use Rattle.palm_cli.proofs.Outcomes.{Ran, run_ends}
 use Rattle.palm_cli.proofs.Statuses.{stop_ends}
 use Rattle.palm_cli.proofs.Stopped.{stopped}

@@ -15,8 +15,8 @@ use Rattle.palm_cli.specs.Ends.{Outside, HasStopped, IsReadWhole, IsDone, TookFe
 use Rattle.palm_cli.specs.Scripts.{IsBadScript}
 use Rattle.palm_cli.specs.Statuses.{code_of, names_fault}
 use Rattle.palm_cli.specs.Stops.{status_of}
-use Rattle.palm_cli.specs.declared.run.Stop.{Stop}
-use Rattle.palm_cli.specs.declared.run.Stop.TheVariants as stops
+use Rattle.palm_cli.specs.declared.stop.Stop.{Stop}
+use Rattle.palm_cli.specs.declared.stop.Stop.TheVariants as stops
 use Rattle.palm_cli.specs.declared.status.Status.{Status}
 use Rattle.palm_cli.specs.declared.status.Status.TheVariants.{Done, Usage, BadLine, ReadFault, WriteFault, NoMemory, TooLong, BadRow}
 use Rattle.palm_cli.proofs.Stopped.{stopped_at_once}

@@ -5,8 +5,8 @@ use Rattle.palm_deck.specs.declared.deck.DeckFault.TheVariants as faults
 use Rattle.palm_script.specs.declared.line.LineFault.{LineFault}
 use Rattle.palm_script.specs.declared.input.InputEnd.{InputEnd}
 use Rattle.palm_script.specs.declared.input.InputEnd.TheVariants as ends
-use Rattle.palm_cli.specs.declared.run.Stop.{Stop}
-use Rattle.palm_cli.specs.declared.run.Stop.TheVariants as stops
+use Rattle.palm_cli.specs.declared.stop.Stop.{Stop}
+use Rattle.palm_cli.specs.declared.stop.Stop.TheVariants as stops
 use Rattle.palm_cli.specs.declared.status.Status.{Status}
 use Rattle.palm_cli.specs.declared.status.Status.TheVariants as statuses
 

@@ -21,8 +21,8 @@ ghost use Rattle.palm_cli.specs.Streams.{AppendsFront};
 ghost use Rattle.palm_cli.specs.Tables.{tree_left, cost_left};
 
 use crate::batch::run_batch;
-use crate::run::Stop;
 use crate::status::Status;
+use crate::stop::Stop;
 use palm_base::{Entry, NoMemory, Steps};
 use palm_deck::{Deck, DeckFault, read_deck, write_deck};
 use palm_engine::Engine;

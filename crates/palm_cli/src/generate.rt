@@ -14,8 +14,8 @@ ghost use Rattle.palm_cli.specs.Streams.{AppendsFront};
 ghost use Rattle.palm_cli.specs.Tables.{table_left, tree_left, cost_left};
 
 use crate::batch::run_batch;
-use crate::run::Stop;
 use crate::status::Status;
+use crate::stop::Stop;
 use palm_base::{Entry, NoMemory, Steps};
 use palm_engine::Engine;
 use palm_gen::{Tally, append_calls, laws, print_summary};

@@ -13,6 +13,7 @@ mod palm;
 mod replay;
 mod run;
 mod status;
+mod stop;
 #[cfg(test)]
 mod tests;
 

@@ -1,3 +1,4 @@
+//! The top call: the words are read, the mode that they set is run, and the error stream is told how it ended.
 ghost use Rattle.std.specs.Prelude.{◌≡◌, ◌+◌, ◌<◌, ◌≤◌, true, false, ◌^◌, ◌-◌, ◌⊎◌, [], map, IfSome, None, string_bytes, List, ℕ};
 ghost use Rattle.std.specs.Io.KnownBytes.{Consumes};
 ghost use Rattle.std.proofs.Common.{zero};

@@ -14,8 +14,9 @@ ghost use Rattle.palm_cli.specs.Ends.{EndsIn};
 ghost use Rattle.palm_cli.specs.Stops.{ended_by};
 ghost use Rattle.palm_cli.specs.Streams.{AppendsFront, text_to};
 
-use crate::run::{Stop, run_sections, write_ending};
+use crate::run::{run_sections, write_ending};
 use crate::status::Status;
+use crate::stop::Stop;
 use palm_base::Steps;
 use palm_engine::Engine;
 use palm_script::{

@@ -12,10 +12,9 @@ ghost use Rattle.palm_script.specs.Transcript.{reply_lines, come_to, dump_text, 
 ghost use Rattle.palm_words.specs.Settings.{AreWithin};
 ghost use Rattle.palm_cli.specs.Costs.{batches_cost, sections_cost};
 ghost use Rattle.palm_cli.specs.Streams.{AppendsFront};
-ghost use Rattle.palm_cli.specs.declared.run.Stop.TheVariants as stops;
 
 use crate::batch::run_batch;
-use crate::status::Status;
+use crate::stop::Stop;
 use palm_base::{Entry, NoMemory, Reply, Steps};
 use palm_engine::Engine;
 use palm_script::{
@@ -26,45 +25,6 @@ use palm_tree::Tree;
 use palm_words::Settings;
 use std::sync::ledger::Ledger;
 use std::thread::Threads;
-
-/// Why a run stopped.
-#[derive(Clone, Copy, Debug, PartialEq, Eq)]
-pub enum Stop {
-    /// Memory was refused.
-    Memory,
-    /// The sink failed.
-    Write,
-}
-
-impl From<NoMemory> for Stop {
-    ghost from_gives = { λ _ stop. stop ≡ stops.Memory };
-
-    fn from(_refused: NoMemory) -> Stop {
-        Stop::Memory
-    }
-}
-
-impl From<Failed> for Stop {
-    ghost from_gives = { λ _ stop. stop ≡ stops.Write };
-
-    fn from(_failed: Failed) -> Stop {
-        Stop::Write
-    }
-}
-
-impl From<Stop> for Status {
-    ghost use Rattle.std.specs.Prelude.{◌≡◌};
-    ghost use Rattle.palm_cli.specs.Stops.{status_of};
-
-    ghost from_gives = { λ stop status. status ≡ status_of stop };
-
-    fn from(stop: Stop) -> Status {
-        match stop {
-            Stop::Memory => Status::NoMemory,
-            Stop::Write => Status::WriteFault,
-        }
-    }
-}
 
 // Appends the lines of a batch's calls, of which the first has the number n.
 fn print_replies(
