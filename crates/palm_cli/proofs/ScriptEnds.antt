@@ -24,7 +24,7 @@ use Rattle.palm_cli.specs.declared.stop.Stop.{Stop}
 use Rattle.palm_cli.specs.declared.stop.Stop.TheVariants.{Write}
 use Rattle.palm_cli.proofs.Outcomes.{Ran, run_ends}
 use Rattle.palm_cli.proofs.Statuses.{stop_ends}
-use Rattle.palm_cli.proofs.Stopped.{stopped}
+use Rattle.palm_cli.proofs.Stopped.{stopped, text_read}
 
 -- The run of a script that was read, by the entries and the ends that it has.
 abbrev pub run_read : Settings → Script → List Section
@@ -35,9 +35,14 @@ said_run : (settings : Settings) (outcome : Outcome) (script : Script) → Says 
 said_run settings outcome script says =
     ap (λ (entries : List Entry). sections_by settings.batch entries script.ends.items) says.entries ∙ ap (sections_by settings.batch (entries_from [] outcome.items)) says.ends
 
--- It ends in a last line where the script that was read was whole, and what it says has no fault.
-said_finished : (outcome : Outcome) (script : Script) (whole ends : Bool) → Says outcome script → ends ≡ whole && is_none script.fault → ends ≡ whole && is_none outcome.fault
-said_finished outcome script whole ends says is = is ∙ ap (λ (fault : Option LineFault). whole && is_none fault) says.fault
+-- Its transcript is that of the bytes that were read: something stands at the end where they were read whole, and no line has a fault.
+said_text : (settings : Settings) (bytes : List ℕ) (end : InputEnd) (script : Script) (ends : Bool) → Says (script_of bytes (is_whole end)) script
+    → ends ≡ is_whole end && is_none script.fault → text_to settings.dump ends (run_read settings script) ≡ text_read settings bytes end
+said_text settings bytes end script ends says finished =
+    let outcome : Outcome = script_of bytes (is_whole end) in
+    let finish : ends ≡ is_whole end && is_none outcome.fault = finished ∙ ap (λ (fault : Option LineFault). is_whole end && is_none fault) says.fault in
+    ap (λ (e : Bool). text_to settings.dump e (run_read settings script)) finish
+    ∙ ap (text_to settings.dump (is_whole end && is_none outcome.fault)) (said_run settings outcome script says)
 
 -- All was run.
 pub script_ends : FaultsStand → (settings : Settings) (o : Outside) (bytes : List ℕ) (end : InputEnd) (script : Script) (ends : Bool) (after : Tree)
@@ -46,14 +51,14 @@ pub script_ends : FaultsStand → (settings : Settings) (o : Outside) (bytes : L
     → after ≡ (after_run (run_read settings script)).tree → o.writes_now ≡ o.writes_before → o.steps_now ≤ o.steps_before + run_cost (run_read settings script)
     → EndsIn Replay settings (ended_by script.fault end) o after
 script_ends stands settings o bytes end script ends after read most says finished text tree kept few =
-    let outcome : Outcome = script_of bytes (is_whole end) in
-    let same = said_run settings outcome script says in
-    let ran : Ran settings outcome ends o.taken o.now after = record {
-      text = subst (λ (run : List Section). Appends o.taken o.now (text_to settings.dump ends run)) same text;
+    let same = said_run settings (script_of bytes (is_whole end)) script says in
+    let ran : Ran settings o bytes end after = record {
+      read = read;
+      most = most;
+      text = subst (Appends o.taken o.now) (said_text settings bytes end script ends says finished) text;
       tree = tree ∙ ap (λ (run : List Section). (after_run run).tree) same;
     } in
-    run_ends stands settings o bytes end outcome ends after read most refl (said_finished outcome script (is_whole end) ends says finished)
-    ran kept (omega (arith, few, ap run_cost same)) script.fault (sym says.fault)
+    run_ends stands settings o bytes end after ran kept (omega (arith, few, ap run_cost same)) script.fault (sym says.fault)
 
 -- It stopped before its end.
 pub script_stops : (settings : Settings) (stop : Stop) (o : Outside) (bytes : List ℕ) (end : InputEnd) (script : Script) (ends : Bool) (after : Tree)
@@ -61,7 +66,5 @@ pub script_stops : (settings : Settings) (stop : Stop) (o : Outside) (bytes : Li
     → ends ≡ is_whole end && is_none script.fault → AppendsFront o.taken o.now (text_to settings.dump ends (run_read settings script))
     → (stop ≡ Write → Rose o.writes_before o.writes_now) → EndsIn Replay settings (status_of stop) o after
 script_stops settings stop o bytes end script ends after read most says finished front rose =
-    let outcome : Outcome = script_of bytes (is_whole end) in
-    let finish = said_finished outcome script (is_whole end) ends says finished in
-    let begun = subst (λ (run : List Section). AppendsFront o.taken o.now (text_to settings.dump ends run)) (said_run settings outcome script says) front in
-    stop_ends Replay settings stop o after rose (stopped settings o.left o.rest o.taken o.now o.reads_before o.reads_now bytes end outcome ends read most refl finish begun)
+    let begun = subst (AppendsFront o.taken o.now) (said_text settings bytes end script ends says finished) front in
+    stop_ends Replay settings stop o after rose (stopped settings o.left o.rest o.taken o.now o.reads_before o.reads_now bytes end read most begun)

@@ -19,8 +19,14 @@ use Rattle.palm_cli.specs.Streams.{AppendsFront, text_to}
 use Rattle.palm_cli.proofs.Fronts.{front_none}
 
 -- a front of a text that has as many bytes
-taken_back : (most : ℕ) (bytes more : List ℕ) → length bytes ≤ most → length bytes ≡ most → take most (bytes ++ more) ≡ bytes
+pub taken_back : (most : ℕ) (bytes more : List ℕ) → length bytes ≤ most → length bytes ≡ most → take most (bytes ++ more) ≡ bytes
 taken_back most bytes more few size = take-append-le most bytes more (omega (arith, size)) ∙ take_all most bytes few
+
+-- The transcript of what was read of a script, as far as it is written: with what stands at the end where the source ended
+-- there, and no line has a fault.
+abbrev pub text_read : Settings → (bytes : List ℕ) → InputEnd → List ℕ
+text_read settings bytes end =
+    text_to settings.dump (is_whole end && is_none (script_of bytes (is_whole end)).fault) (run_of settings (script_of bytes (is_whole end)))
 
 -- What was read to the end of the source has all of its script's transcript.
 all_front : (settings : Settings) (outcome : Outcome) (old new : Option (List ℕ))
@@ -32,32 +38,21 @@ all_front settings outcome old new took =
       | Some fault ↦ λ t. t
     ] took
 
--- a front of the transcript, by whether it has an end
-as_far : (settings : Settings) (outcome : Outcome) (old new : Option (List ℕ)) {ends finished : Bool} → ends ≡ finished
-    → AppendsFront old new (text_to settings.dump ends (run_of settings outcome)) → AppendsFront old new (text_to settings.dump finished (run_of settings outcome))
-as_far settings outcome old new is took = subst (λ (e : Bool). AppendsFront old new (text_to settings.dump e (run_of settings outcome))) is took
-
 -- What was taken of the transcript of what was read.
-pub stopped : (settings : Settings) (left rest old new : Option (List ℕ)) (before now : ℕ) (bytes : List ℕ) (end : InputEnd) (outcome : Outcome) (ends : Bool)
-    → IsRead left rest before now bytes end → length bytes ≤ MOST_BYTES → script_of bytes (is_whole end) ≡ outcome → ends ≡ is_whole end && is_none outcome.fault
-    → AppendsFront old new (text_to settings.dump ends (run_of settings outcome))
+pub stopped : (settings : Settings) (left rest old new : Option (List ℕ)) (before now : ℕ) (bytes : List ℕ) (end : InputEnd)
+    → IsRead left rest before now bytes end → length bytes ≤ MOST_BYTES → AppendsFront old new (text_read settings bytes end)
     → (read : List ℕ) × Consumes left rest read × IsStoppedScript settings read rest old new
-stopped settings left rest old new before now bytes Whole outcome ends read most same ends-is took = (
+stopped settings left rest old new before now bytes Whole read most took = (bytes, read.0, inr (read.1, most, all_front settings (script_of bytes true) old new took))
+stopped settings left rest old new before now bytes Failed read most took = (
   bytes,
   read.0,
-  inr (
-    read.1,
-    most,
-    subst (λ (o : Outcome). AppendsFront old new (all_said settings o)) (sym same) (all_front settings outcome old new (as_far settings outcome old new ends-is took)),
-  ),
+  inl (subst (λ (l : List ℕ). AppendsFront old new (text_said settings (script_of l false))) (sym (take_all MOST_BYTES bytes most)) took),
 )
-stopped settings left rest old new before now bytes Failed outcome ends read most same ends-is took =
-    let all : script_of (take MOST_BYTES bytes) false ≡ outcome = ap (λ (l : List ℕ). script_of l false) (take_all MOST_BYTES bytes most) ∙ same in
-    (bytes, read.0, inl (subst (λ (o : Outcome). AppendsFront old new (text_said settings o)) (sym all) (as_far settings outcome old new ends-is took)))
-stopped settings left rest old new before now bytes Long outcome ends read most same ends-is took =
-    let front : take MOST_BYTES (bytes ++ read.0) ≡ bytes = taken_back MOST_BYTES bytes read.0 most read.2 in
-    let all : script_of (take MOST_BYTES (bytes ++ read.0)) false ≡ outcome = ap (λ (l : List ℕ). script_of l false) front ∙ same in
-    (bytes ++ read.0, read.1, inl (subst (λ (o : Outcome). AppendsFront old new (text_said settings o)) (sym all) (as_far settings outcome old new ends-is took)))
+stopped settings left rest old new before now bytes Long read most took = (
+  bytes ++ read.0,
+  read.1,
+  inl (subst (λ (l : List ℕ). AppendsFront old new (text_said settings (script_of l false))) (sym (taken_back MOST_BYTES bytes read.0 most read.2)) took),
+)
 
 -- Nothing was taken.
 pub stopped_at_once : (mode : Mode) (settings : Settings) (read : List ℕ) (rest old : Option (List ℕ)) → IsStopped mode settings read rest old old

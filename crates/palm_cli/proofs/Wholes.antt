@@ -12,6 +12,12 @@ where_whole P (Some b) (Some r) bytes read end p =
     let whole : b ≡ bytes = read ∙ ap (λ (l : List ℕ). bytes ++ l) end ∙ append-nil bytes in
     subst P (sym whole) p
 
+-- What holds of the bytes that were read with any behind them holds of those that the source had, where it tells them.
+pub where_read : (P : List ℕ → Type 0) (left rest : Option (List ℕ)) (bytes : List ℕ) → Consumes left rest bytes → ((unread : List ℕ) → P (bytes ++ unread)) → IfSome left P
+where_read P None rest bytes read p = tt
+where_read P (Some b) None bytes read p = absurd read
+where_read P (Some b) (Some r) bytes read p = subst P (sym read) (p r)
+
 -- Of a source that has more than so many bytes one more was read.
 pub where_longer : (most : ℕ) (left rest : Option (List ℕ)) (bytes more : List ℕ)
     → Consumes left rest (bytes ++ more) → length bytes ≡ most → length more ≡ 1 → IfSome left (λ b. most < length b)
