@@ -32,7 +32,18 @@ table_text tree rows edits is none = ap deck_text (is ∙ ap (λ (t : Tree). tab
 -- No good deck was read, and nothing was written.
 pub no_deck_ends : (settings : Settings) (left rest taken : Option (List ℕ)) (before now writes steps : ℕ) (status : Status) (after : Tree)
     → IsNoDeck left rest before now status
-    → EndsIn Deck settings status (record { left = left; rest = rest; taken = taken; now = taken; reads_before = before; reads_now = now; writes_before = writes; writes_now = writes; steps_before = steps; steps_now = steps }) after
+    → EndsIn Deck settings status (record {
+      left = left;
+      rest = rest;
+      taken = taken;
+      now = taken;
+      reads_before = before;
+      reads_now = now;
+      writes_before = writes;
+      writes_now = writes;
+      steps_before = steps;
+      steps_now = steps;
+    }) after
 no_deck_ends settings left rest taken before now writes steps Done after unread = absurd unread
 no_deck_ends settings left rest taken before now writes steps Usage after unread = absurd unread
 no_deck_ends settings left rest taken before now writes steps (BadLine fault) after unread = absurd unread
@@ -40,7 +51,8 @@ no_deck_ends settings left rest taken before now writes steps ReadFault after un
 no_deck_ends settings left rest taken before now writes steps WriteFault after unread = absurd unread
 no_deck_ends settings left rest taken before now writes steps NoMemory after unread = (unread.0, unread.1, stopped_at_once Deck settings unread.0 rest taken)
 no_deck_ends settings left rest taken before now writes steps TooLong after unread = (unread, refl)
-no_deck_ends settings left rest taken before now writes steps (BadRow row why) after unread = (refl, unread.0, (unread.1.0, unread.1.1, stopped_at_once Deck settings unread.1.0 rest taken))
+no_deck_ends settings left rest taken before now writes steps (BadRow row why) after unread =
+    (refl, unread.0, (unread.1.0, unread.1.1, stopped_at_once Deck settings unread.1.0 rest taken))
 
 -- The edits of a good deck were run, and the table that they leave was written.
 pub deck_ends : (settings : Settings) (o : Outside) (edits : List Entry) (after : Tree) → IsEdits o.left o.rest o.reads_before o.reads_now edits

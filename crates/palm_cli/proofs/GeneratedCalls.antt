@@ -35,7 +35,8 @@ other_calls join long n k state i few =
     sym (ap (drop k) (parted join n k state i few) ∙ ap (λ (m : ℕ). drop m (first ++ rest)) (sym size) ∙ drop-append_seam first rest)
 
 -- What replies to calls sum up to is what those to their first batch do and those to the others.
-pub replies_more : (f : Reply → ℕ) (rows : List Row) {next : List Row} {most : ℕ} {rest batch left : List Entry} → IsFirstBatch most rest batch left → next ≡ table_after rows batch
+pub replies_more : (f : Reply → ℕ) (rows : List Row) {next : List Row} {most : ℕ} {rest batch left : List Entry} → IsFirstBatch most rest batch left
+    → next ≡ table_after rows batch
     → sum_by f (replies_to rows rest) ≡ sum_by f (replies_to rows batch) + sum_by f (replies_to next left)
 replies_more f rows {batch = batch} {left = left} first next-is =
     ap (λ (l : List Entry). sum_by f (replies_to rows l)) (sym (batch_joins first))

@@ -1,7 +1,7 @@
 -- How the run of a script ends, by how far it was read and whether it has a faulty line.
 use Rattle.std.proofs.Common.{◌≡◌, ℕ, ◌+◌, ◌-◌, ◌≤◌, ◌<◌, Bool, inl, inr, true, false, List, ◌++◌, length, take, Option, Some, None, refl, sym, ap, subst, ◌∙◌}
 use Rattle.std.proofs.Common.{append_assoc, arith}
-use Rattle.std.specs.Prelude.{◌&&◌, IfSome, IsSome, is_none}
+use Rattle.std.specs.Prelude.{IfSome, IsSome, is_none}
 use Rattle.std.specs.Io.KnownBytes.{Appends, Consumes, IsAtEnd}
 use Rattle.std.proofs.lemmas.List.{length-append}
 use Rattle.std.proofs.Math.Seq.{take-append-add}
@@ -17,7 +17,7 @@ use Rattle.palm_script.specs.Script.{Outcome, script_of}
 use Rattle.palm_words.specs.declared.settings.Mode.TheVariants.{Replay}
 use Rattle.palm_words.specs.declared.settings.Settings.{Settings}
 use Rattle.palm_cli.specs.Ends.{Outside, EndsIn}
-use Rattle.palm_cli.specs.Scripts.{IsGoodScript, IsBadScript, IsLongScript, IsCutScript, run_of, tree_said, text_said, final_said}
+use Rattle.palm_cli.specs.Scripts.{IsGoodScript, IsBadScript, IsLongScript, IsCutScript, run_of, tree_said, text_said}
 use Rattle.palm_cli.specs.Costs.{run_cost}
 use Rattle.palm_cli.specs.Stops.{ended_by}
 use Rattle.palm_cli.specs.Streams.{text_to}
@@ -57,7 +57,7 @@ good_script : (settings : Settings) (o : Outside) (bytes : List ℕ) (after : Tr
     → IfSome o.left (λ b. IsGoodScript settings b o.taken o.now after) × IsAtEnd o.rest × (o.reads_now ≡ o.reads_before)
 good_script settings o bytes after ran none = (
   where_whole (λ (b : List ℕ). IsGoodScript settings b o.taken o.now after) o.left o.rest bytes ran.read.0 ran.read.1
-  (record { size = ran.most; good = none; text = ended_so settings (script_of bytes true) o.taken o.now (ap is_none none) ran.text; tree = ran.tree }),
+      (record { size = ran.most; good = none; text = ended_so settings (script_of bytes true) o.taken o.now (ap is_none none) ran.text; tree = ran.tree }),
   ran.read.1,
   ran.read.2,
 )

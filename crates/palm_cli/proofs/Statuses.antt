@@ -30,7 +30,18 @@ stop_ends mode settings stops.Write o after rose stopped = (rose refl, stopped)
 
 -- Memory was refused while the words were read, before anything else was done.
 pub memory_ends : (found : Option Settings) (left taken : Option (List ℕ)) (reads writes steps : ℕ) (after : Tree)
-    → HasEnded found NoMemory (record { left = left; rest = left; taken = taken; now = taken; reads_before = reads; reads_now = reads; writes_before = writes; writes_now = writes; steps_before = steps; steps_now = steps }) after
+    → HasEnded found NoMemory (record {
+      left = left;
+      rest = left;
+      taken = taken;
+      now = taken;
+      reads_before = reads;
+      reads_now = reads;
+      writes_before = writes;
+      writes_now = writes;
+      steps_before = steps;
+      steps_now = steps;
+    }) after
 memory_ends None left taken reads writes steps after = inr refl
 memory_ends (Some settings) left taken reads writes steps after = ([], Consumes-nil left, stopped_at_once settings.mode settings [] left taken)
 
@@ -104,7 +115,8 @@ ended_as other found status o after usage memory is ended = formed found other o
 where_some : (P : Settings → Type 0) (found : Option Settings) (settings : Settings) → found ≡ Some settings → P settings → IfSome found P
 where_some P found settings is p = subst (λ (x : Option Settings). IfSome x P) (sym is) p
 
--- 0: the source was read to its end, the rule's text was taken, neither failed, and no more steps were counted than all batches may take.
+-- 0: what the mode writes was taken, the source was read to its end, neither of the two failed, and no more steps were counted
+-- than all batches may take.
 pub done_ended : (found : Option Settings) (status : Status) (o : Outside) (after : Tree) → HasEnded found status o after → code_of status ≡ 0
     → IfSome found (λ settings. IsDone settings.mode settings o.left o.taken o.now after) × IfSome found (λ settings. IsReadWhole settings.mode o.rest)
     × ((o.reads_now ≡ o.reads_before) × (o.writes_now ≡ o.writes_before)) × IfSome found (λ settings. TookFew settings.mode settings o.left o.steps_before o.steps_now)
@@ -207,6 +219,7 @@ ended_unfailed settings (BadRow row why) o after ended r0 r1 w0 w1 = subst (λ (
 
 -- Where nothing failed, each mode has its ends.
 pub complete_ended : (found : Option Settings) (status : Status) (o : Outside) (after : Tree) (code : ℕ) → code ≡ code_of status → HasEnded found status o after
-    → IfSome found (λ settings. o.reads_now ≡ o.reads_before → o.reads_before < 2 ^ 64 - 1 → o.writes_now ≡ o.writes_before → o.writes_before < 2 ^ 64 - 1 → EndsUnfailed settings.mode code)
+    → IfSome found (λ settings.
+    o.reads_now ≡ o.reads_before → o.reads_before < 2 ^ 64 - 1 → o.writes_now ≡ o.writes_before → o.writes_before < 2 ^ 64 - 1 → EndsUnfailed settings.mode code)
 complete_ended None status o after code is ended = tt
 complete_ended (Some settings) status o after code is ended = λ r0 r1 w0 w1. subst (EndsUnfailed settings.mode) (sym is) (ended_unfailed settings status o after ended r0 r1 w0 w1)

@@ -1,4 +1,4 @@
-use Rattle.std.proofs.Common.{◌≡◌, ℕ, List, refl, subst}
+use Rattle.std.proofs.Common.{◌≡◌, refl, subst}
 use Rattle.std.proofs.lemmas.Result.{on_err_weaker}
 use Rattle.palm_base.specs.Tree.{rows_of}
 use Rattle.palm_tree.specs.TreeValue.{tree_in}
@@ -11,4 +11,6 @@ returns-clause-front g c =
     let tree = tree_in c.run_calls.new.engine.tree in
     let said : summary_by c.in_ok-tally.tally (rows_of tree) tree ≡ summary_said c.args.settings.now =
     rw (c.in_ok-tally.ensures.tally, c.in_ok-tally.ensures.rows, c.in_ok-tally.ensures.tree) refl in
-    on_err_weaker c.write_summary.result (λ took. subst (λ (text : List ℕ). AppendsFront (g.O.Sink.taken c.args.out.now) (g.O.Sink.taken c.write_summary.new.out) text) said took) c.write_summary.ensures.front
+    on_err_weaker c.write_summary.result
+    (λ took. subst (AppendsFront (g.O.Sink.taken c.args.out.now) (g.O.Sink.taken c.write_summary.new.out)) said took)
+    c.write_summary.ensures.front

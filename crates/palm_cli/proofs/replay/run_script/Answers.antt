@@ -15,7 +15,8 @@ returns-in_err-run_sections-clause-front g c =
     let run = sections_by c.args.settings.now.batch c.deref.result.now c.deref-2.result.now in
     let dump = c.args.settings.now.dump in
     rw (← c.deref.ensures.value, ← c.deref-2.ensures.value) (
-    on_err c.from_residual.result (text_front dump c.args.ends run _ _ (run_front dump (tree_in c.args.engine.now.tree) run _ _ c.requires.new c.in_err-run_sections.ensures.front))
+    on_err c.from_residual.result
+    (text_front dump c.args.ends run _ _ (run_front dump (tree_in c.args.engine.now.tree) run _ _ c.requires.new c.in_err-run_sections.ensures.front))
     )
 
 pub returns-then-not-ends-clause-text : goal.returns-then-not-ends-clause-text
@@ -75,5 +76,7 @@ pub returns-clause-ticks : goal.returns-clause-ticks
 returns-clause-ticks g c =
     let run = sections_by c.args.settings.now.batch c.deref.result.now c.deref-2.result.now in
     rw (← c.deref.ensures.value, ← c.deref-2.ensures.value) (
-    on_ok_weaker c.write_ending.result (λ took. cost_of_run (tree_in c.args.engine.now.tree) run _ _ c.requires.new c.in_ok-run_sections.ensures.ticks) c.write_ending.ensures.text
+    on_ok_weaker c.write_ending.result
+    (λ took. cost_of_run (tree_in c.args.engine.now.tree) run _ _ c.requires.new c.in_ok-run_sections.ensures.ticks)
+    c.write_ending.ensures.text
     )

@@ -24,6 +24,7 @@ returns-in_err-write_all-clause-front g c =
     let shown = dump_text c.args.dumps (tree_in c.run_batches.new.engine.tree) in
     let same : shown ≡ dumped = ap (dump_text c.args.dumps) c.in_ok-run_batches.ensures.tree in
     let printed : c.print_dump.new.text.items ≡ dumped = c.in_ok-print_dump.ensures ∙ ap (λ l. l ++ shown) c.clear.ensures.items ∙ same in
-    let more : AppendsFront (g.O.Sink.taken c.run_batches.new.out) (g.O.Sink.taken c.write_all.new.out) dumped = rw (← printed, ← c.deref.ensures.value) c.in_err-write_all.ensures.err in
+    let more : AppendsFront (g.O.Sink.taken c.run_batches.new.out) (g.O.Sink.taken c.write_all.new.out) dumped =
+    rw (← printed, ← c.deref.ensures.value) c.in_err-write_all.ensures.err in
     on_err c.from_residual-in_err-write_all.result
     (front_more _ _ _ batches dumped [] _ c.in_ok-run_batches.ensures.text more (ap (λ (l : List ℕ). batches ++ l) (append-nil dumped)))
