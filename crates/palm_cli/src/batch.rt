@@ -17,7 +17,7 @@ use std::thread::Threads;
 
 /// Runs a batch of at most as many calls as the settings say, of which the first has the number n, and gives the replies in their
 /// order. `NoMemory` where memory was refused.
-pub fn run_batch<R: Threads + Sync, G: Gate + Sync, L: Ledger>(
+pub fn answer_batch<R: Threads + Sync, G: Gate + Sync, L: Ledger>(
     rt: &R,
     settings: &Settings,
     n: u64,

@@ -20,7 +20,7 @@ ghost use Rattle.palm_cli.specs.Statuses.{code_of};
 ghost use Rattle.palm_cli.specs.Streams.{AppendsFront};
 ghost use Rattle.palm_cli.specs.Tables.{tree_left, cost_left};
 
-use crate::batch::run_batch;
+use crate::batch::answer_batch;
 use crate::status::Status;
 use crate::stop::Stop;
 use palm_base::{Entry, NoMemory, Steps};
@@ -84,7 +84,7 @@ fn run_edits<R: Threads + Sync, G: Gate + Sync, L: Ledger>(
     let mut at = 0u64;
     while !rest.is_empty() {
         let (batch, after) = rest.split_at(rest.len().min(most));
-        run_batch(rt, settings, at, engine, batch, gate, steps)?;
+        answer_batch(rt, settings, at, engine, batch, gate, steps)?;
         at += batch.len() as u64;
         rest = after;
     }

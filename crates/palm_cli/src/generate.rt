@@ -13,7 +13,7 @@ ghost use Rattle.palm_cli.specs.Generated.{counts_of, history_said, summary_by, 
 ghost use Rattle.palm_cli.specs.Streams.{AppendsFront};
 ghost use Rattle.palm_cli.specs.Tables.{table_left, tree_left, cost_left};
 
-use crate::batch::run_batch;
+use crate::batch::answer_batch;
 use crate::status::Status;
 use crate::stop::Stop;
 use palm_base::{Entry, NoMemory, Steps};
@@ -54,7 +54,7 @@ fn run_calls<R: Threads + Sync, G: Gate + Sync, L: Ledger>(
         let count = (settings.calls - at).min(u64::from(settings.batch));
         batch.clear();
         state = append_calls(state, at, count as usize, batch)?;
-        let replies = run_batch(rt, settings, at, engine, batch, gate, steps)?;
+        let replies = answer_batch(rt, settings, at, engine, batch, gate, steps)?;
         tally.add(&replies);
         at += count;
     }

@@ -47,14 +47,14 @@ fn end_by(fault: Option<LineFault>, end: InputEnd) -> Status
     }
 }
 
-// Runs a script on a new engine, and writes its transcript, with what stands at the end where `ends`.
+// Runs a script on a new engine, and writes its transcript, with what stands at the end where it is finished.
 fn run_script<R: Threads + Sync, O: Sink, G: Gate + Sync, L: Ledger>(
     rt: &R,
     alloc: Global,
     settings: &Settings,
     engine: &mut Engine,
     script: &Script,
-    ends: bool,
+    finished: bool,
     out: &mut O,
     gate: &G,
     steps: &mut Steps<L>,
@@ -63,8 +63,8 @@ fn run_script<R: Threads + Sync, O: Sink, G: Gate + Sync, L: Ledger>(
     requires new { tree_in engine.old.tree ≡ (zero, []) }
     requires few { length script.now.entries.items ≤ MOST_BYTES }
     requires within { sum_by (λ end. end.calls) script.now.ends.items ≤ length script.now.entries.items }
-    ensures text { OnOk result (Appends (O.taken out.old) (O.taken out.new) (text_to settings.now.dump ends (sections_by settings.now.batch script.now.entries.items script.now.ends.items))) }
-    ensures front { OnErr result (AppendsFront (O.taken out.old) (O.taken out.new) (text_to settings.now.dump ends (sections_by settings.now.batch script.now.entries.items script.now.ends.items))) }
+    ensures text { OnOk result (Appends (O.taken out.old) (O.taken out.new) (text_to settings.now.dump finished (sections_by settings.now.batch script.now.entries.items script.now.ends.items))) }
+    ensures front { OnErr result (AppendsFront (O.taken out.old) (O.taken out.new) (text_to settings.now.dump finished (sections_by settings.now.batch script.now.entries.items script.now.ends.items))) }
     ensures tree { OnOk result (tree_in engine.new.tree ≡ (after_run (sections_by settings.now.batch script.now.entries.items script.now.ends.items)).tree) }
     ensures ticks { OnOk result (steps.new ≤ steps.old + run_cost (sections_by settings.now.batch script.now.entries.items script.now.ends.items)) }
     ensures lawful { IsLawful (tree_in engine.new.tree) }
@@ -83,7 +83,7 @@ fn run_script<R: Threads + Sync, O: Sink, G: Gate + Sync, L: Ledger>(
         steps,
         &mut text,
     )?;
-    if !ends {
+    if !finished {
         return Ok(());
     }
     let calls = script.entries.len() as u64;
@@ -113,8 +113,10 @@ pub fn replay<R: Threads + Sync, S: Source, O: Sink, G: Gate + Sync, L: Ledger>(
     let Ok(script) = read_script(alloc, &input.bytes, input.end.is_whole()) else {
         return Status::NoMemory;
     };
-    let ends = is_finished(input.end, &script);
-    if let Err(stop) = run_script(rt, alloc, settings, engine, &script, ends, out, gate, steps) {
+    let finished = is_finished(input.end, &script);
+    if let Err(stop) = run_script(
+        rt, alloc, settings, engine, &script, finished, out, gate, steps,
+    ) {
         return Status::from(stop);
     }
     end_by(script.fault, input.end)

@@ -13,7 +13,7 @@ ghost use Rattle.palm_words.specs.Settings.{AreWithin};
 ghost use Rattle.palm_cli.specs.Costs.{batches_cost, sections_cost};
 ghost use Rattle.palm_cli.specs.Streams.{AppendsFront};
 
-use crate::batch::run_batch;
+use crate::batch::answer_batch;
 use crate::stop::Stop;
 use palm_base::{Entry, NoMemory, Reply, Steps};
 use palm_engine::Engine;
@@ -73,7 +73,7 @@ fn replay_batch<R: Threads + Sync, G: Gate + Sync, L: Ledger>(
     ensures lawful { IsLawful (tree_in engine.new.tree) }
     ensures ticks { OnOk result (steps.new ≤ steps.old + cost_on (tree_in engine.old.tree) batch.now) }
 {
-    let replies = run_batch(rt, settings, n, engine, batch, gate, steps)?;
+    let replies = answer_batch(rt, settings, n, engine, batch, gate, steps)?;
     print_replies(n, batch, &replies, text)?;
     print_batch(batch.len() as u32, text)?;
     print_dump(settings.dump.dumps_batches(), &engine.tree, text)

@@ -17,8 +17,8 @@ returns-in-Err-clause-end g c =
     let says = rw (c.is_whole.ensures, c.deref.ensures.value) at c.in-Ok-read_script.ensures.says in
     let ran = c.in-Err.ensures in
     rw c.from.ensures (
-    script_stops c.args.settings.now c.in-Err.stop _ input.bytes.items input.end c.in-Ok-read_script.script c.is_finished-ends.result after
-    c.in-Ok.ensures.read c.in-Ok.ensures.most says c.is_finished-ends.ensures ran.front (λ is. ran.cause (ap Err is))
+    script_stops c.args.settings.now c.in-Err.stop _ input.bytes.items input.end c.in-Ok-read_script.script c.is_finished-finished.result after
+    c.in-Ok.ensures.read c.in-Ok.ensures.most says c.is_finished-finished.ensures ran.front (λ is. ran.cause (ap Err is))
     )
 
 pub returns-clause-end : goal.returns-clause-end
@@ -28,6 +28,6 @@ returns-clause-end g c =
     let says = rw (c.is_whole.ensures, c.deref.ensures.value) at c.in-Ok-read_script.ensures.says in
     let ran = c.in_default-run_script.ensures in
     rw c.end_by.ensures (
-    script_ends c.faults_stand.ensures c.args.settings.now _ input.bytes.items input.end c.in-Ok-read_script.script c.is_finished-ends.result after
-    c.in-Ok.ensures.read c.in-Ok.ensures.most says c.is_finished-ends.ensures ran.text ran.tree ran.kept ran.ticks
+    script_ends c.faults_stand.ensures c.args.settings.now _ input.bytes.items input.end c.in-Ok-read_script.script c.is_finished-finished.result after
+    c.in-Ok.ensures.read c.in-Ok.ensures.most says c.is_finished-finished.ensures ran.text ran.tree ran.kept ran.ticks
     )

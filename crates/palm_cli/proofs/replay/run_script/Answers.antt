@@ -16,19 +16,19 @@ returns-in_err-run_sections-clause-front g c =
     let dump = c.args.settings.now.dump in
     rw (← c.deref.ensures.value, ← c.deref-2.ensures.value) (
     on_err c.from_residual.result
-    (text_front dump c.args.ends run _ _ (run_front dump (tree_in c.args.engine.now.tree) run _ _ c.requires.new c.in_err-run_sections.ensures.front))
+    (text_front dump c.args.finished run _ _ (run_front dump (tree_in c.args.engine.now.tree) run _ _ c.requires.new c.in_err-run_sections.ensures.front))
     )
 
-pub returns-then-not-ends-clause-text : goal.returns-then-not-ends-clause-text
-returns-then-not-ends-clause-text g c =
+pub returns-then-not-finished-clause-text : goal.returns-then-not-finished-clause-text
+returns-then-not-finished-clause-text g c =
     let run = sections_by c.args.settings.now.batch c.deref.result.now c.deref-2.result.now in
     let dump = c.args.settings.now.dump in
-    rw (← c.deref.ensures.value, ← c.deref-2.ensures.value, c.if-not-ends.true) (
+    rw (← c.deref.ensures.value, ← c.deref-2.ensures.value, c.if-not-finished.true) (
     run_text dump (tree_in c.args.engine.now.tree) run _ _ c.requires.new c.in_ok-run_sections.ensures.text
     )
 
-pub returns-then-not-ends-clause-tree : goal.returns-then-not-ends-clause-tree
-returns-then-not-ends-clause-tree g c =
+pub returns-then-not-finished-clause-tree : goal.returns-then-not-finished-clause-tree
+returns-then-not-finished-clause-tree g c =
     let run = sections_by c.args.settings.now.batch c.deref.result.now c.deref-2.result.now in
     rw (← c.deref.ensures.value, ← c.deref-2.ensures.value) (
     run_leaves (tree_in c.args.engine.now.tree) (tree_in c.run_sections.new.engine.tree) run _ c.requires.new c.in_ok-run_sections.ensures.after
@@ -40,7 +40,7 @@ returns-clause-text g c =
     let after = tree_in c.run_sections.new.engine.tree in
     let many = c.deref.ensures.len ∙ sym c.len-calls.ensures in
     let ran = c.in_ok-run_sections.ensures in
-    rw (← c.deref.ensures.value, ← c.deref-2.ensures.value, c.if-not-ends.false) (
+    rw (← c.deref.ensures.value, ← c.deref-2.ensures.value, c.if-not-finished.false) (
     on_ok_weaker c.write_ending.result
     (λ took. text_ended c.args.settings.now.dump (tree_in c.args.engine.now.tree) after run _ _ _ _ _ c.requires.new ran.after many ran.text took)
     c.write_ending.ensures.text
@@ -52,7 +52,7 @@ returns-clause-front g c =
     let after = tree_in c.run_sections.new.engine.tree in
     let many = c.deref.ensures.len ∙ sym c.len-calls.ensures in
     let ran = c.in_ok-run_sections.ensures in
-    rw (← c.deref.ensures.value, ← c.deref-2.ensures.value, c.if-not-ends.false) (
+    rw (← c.deref.ensures.value, ← c.deref-2.ensures.value, c.if-not-finished.false) (
     on_err_weaker c.write_ending.result
     (λ took. end_front c.args.settings.now.dump (tree_in c.args.engine.now.tree) after run _ _ _ _ _ c.requires.new ran.after many ran.text took)
     c.write_ending.ensures.front
@@ -67,8 +67,8 @@ returns-clause-tree g c =
     c.write_ending.ensures.text
     )
 
-pub returns-then-not-ends-clause-ticks : goal.returns-then-not-ends-clause-ticks
-returns-then-not-ends-clause-ticks g c =
+pub returns-then-not-finished-clause-ticks : goal.returns-then-not-finished-clause-ticks
+returns-then-not-finished-clause-ticks g c =
     let run = sections_by c.args.settings.now.batch c.deref.result.now c.deref-2.result.now in
     rw (← c.deref.ensures.value, ← c.deref-2.ensures.value) (cost_of_run (tree_in c.args.engine.now.tree) run _ _ c.requires.new c.in_ok-run_sections.ensures.ticks)
 
