@@ -22,6 +22,7 @@ use Rattle.palm_cli.proofs.Fronts.{AppendsBut, but_more, but_front}
 abbrev left_over : ℕ → List ℕ
 left_over r = cond (eqb r 0) [] (r ∷ [])
 
+-- it is there where it isn't 0
 left_over-some : (r : ℕ) → 0 < r → left_over r ≡ r ∷ []
 left_over-some r some = rw (ne_eqb r 0 (λ e. omega arith)) refl
 

@@ -10,6 +10,7 @@ use Rattle.palm_cli.specs.Costs.{sections_cost, run_cost}
 use Rattle.palm_cli.specs.Streams.{AppendsFront, text_to}
 use Rattle.palm_cli.proofs.Fronts.{front_longer, front_more}
 
+-- The empty tree, after no call, is where every transcript begins.
 begun : (tree : Tree) → tree ≡ (zero, []) → come_to 0 tree ≡ begin
 begun tree is = ap (come_to 0) is
 
@@ -28,6 +29,7 @@ pub run_text : (dump : DumpWhen) (tree : Tree) (run : List Section) (a b : Optio
     → tree ≡ (zero, []) → Appends a b (sections_text dump (come_to 0 tree) run) → Appends a b (text_of dump run)
 run_text dump tree run a b is took = subst (λ (at : Progress). Appends a b (sections_text dump at run)) (begun tree is) took
 
+-- So is a front of it.
 pub run_front : (dump : DumpWhen) (tree : Tree) (run : List Section) (a b : Option (List ℕ))
     → tree ≡ (zero, []) → AppendsFront a b (sections_text dump (come_to 0 tree) run) → AppendsFront a b (text_of dump run)
 run_front dump tree run a b is took = subst (λ (at : Progress). AppendsFront a b (sections_text dump at run)) (begun tree is) took

@@ -67,6 +67,7 @@ cut_script : (settings : Settings) (o : Outside) (bytes : List ℕ) (after : Tre
     → Rose o.reads_before o.reads_now × ((read : List ℕ) × Consumes o.left o.rest read × IsCutScript settings read o.taken o.now after)
 cut_script settings o bytes after ran none = (ran.read.1, (bytes, ran.read.0, record { good = none; text = ran.text; tree = ran.tree }))
 
+-- such a source is longer than the bytes that are taken
 longer : (most : ℕ) (bytes more unread : List ℕ) → length bytes ≡ most → length more ≡ 1 → most < length ((bytes ++ more) ++ unread)
 longer most bytes more unread size one = omega (arith, length-append (bytes ++ more) unread, length-append bytes more, size, one)
 
@@ -88,6 +89,7 @@ long_script settings o bytes after ran none =
 
 -- ---- a line has a fault
 
+-- a front that reaches past a first part
 take_past : (n : ℕ) (xs ys : List ℕ) → length xs ≤ n → take n (xs ++ ys) ≡ xs ++ take (n - length xs) ys
 take_past n xs ys h =
     let k : n ≡ length xs + (n - length xs) = omega arith in

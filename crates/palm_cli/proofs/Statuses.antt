@@ -57,6 +57,7 @@ refused_line settings WriteFault o after names ended = cc
 refused_line settings NoMemory o after names ended = cc
 refused_line settings TooLong o after names ended = cc
 
+-- The status that was told in the end is that of the run, or memory was refused for the line of its fault.
 pub told_ends : (found : Option Settings) (status told : Status) (o : Outside) (after : Tree)
     → (told ≡ status) ⊎ ((told ≡ NoMemory) × (names_fault status ≡ true)) → HasEnded found status o after → HasEnded found told o after
 told_ends found status told o after (inl same) ended = subst (λ (s : Status). HasEnded found s o after) (sym same) ended
@@ -78,6 +79,7 @@ IsOfCode (suc (suc (suc (suc (suc (suc zero)))))) status = status ≡ NoMemory
 IsOfCode (suc (suc (suc (suc (suc (suc (suc zero))))))) status = status ≡ TooLong
 IsOfCode (suc (suc (suc (suc (suc (suc (suc (suc n)))))))) status = (row : ℕ) × (why : DeckWhy) × (status ≡ BadRow row why)
 
+-- Each status is the one of its own code.
 is_of_its_code : (status : Status) → IsOfCode (code_of status) status
 is_of_its_code Done = refl
 is_of_its_code Usage = refl
@@ -88,6 +90,7 @@ is_of_its_code NoMemory = refl
 is_of_its_code TooLong = refl
 is_of_its_code (BadRow row why) = (row, why, refl)
 
+-- So it is of a code that is its own.
 pub is_of_code : (n : ℕ) (status : Status) → code_of status ≡ n → IsOfCode n status
 is_of_code n status code = subst (λ (m : ℕ). IsOfCode m status) code (is_of_its_code status)
 
@@ -177,11 +180,12 @@ stop_ended found status o after ended (inl code) = (write_ended found status o a
 stop_ended None status o after ended (inr code) = tt
 stop_ended (Some settings) status o after ended (inr code) = subst (λ (s : Status). EndsAs settings s o after) (is_of_code 6 status code) ended
 
--- 2 comes where the words aren't of the form, and where they aren't there is 2 or 6.
+-- 2 comes where the words aren't of the form.
 pub usage_ended : (found : Option Settings) (status : Status) (o : Outside) (after : Tree) → HasEnded found status o after → code_of status ≡ 2 → found ≡ None
 usage_ended None status o after ended code = refl
 usage_ended (Some settings) status o after ended code = absurd (subst (λ (s : Status). EndsAs settings s o after) (is_of_code 2 status code) ended)
 
+-- Where the words aren't of the form there is 2 or 6.
 pub refused_ended : (found : Option Settings) (status : Status) (o : Outside) (after : Tree)
     → HasEnded found status o after → found ≡ None → (code_of status ≡ 2) ⊎ (code_of status ≡ 6)
 refused_ended None status o after (inl is) none = inl (ap code_of is)
@@ -190,22 +194,25 @@ refused_ended (Some settings) status o after ended none = cc
 
 -- ---- without a fault
 
--- In every mode there are 0 and 6.
+-- In every mode there are 0 and 6: this is 0.
 done_in : (mode : Mode) → EndsUnfailed mode 0
 done_in Replay = inl refl
 done_in Deck = inl refl
 done_in Gen = inl refl
 
+-- and this is 6
 memory_in : (mode : Mode) → EndsUnfailed mode 6
 memory_in Replay = inr (inr (inl refl))
 memory_in Deck = inr (inl refl)
 memory_in Gen = inr refl
 
+-- 7 comes in the modes that read.
 long_in : (mode : Mode) (settings : Settings) (left old new : Option (List ℕ)) (after : Tree) → IsLong mode settings left old new after → EndsUnfailed mode 7
 long_in Replay settings left old new after long = inr (inr (inr refl))
 long_in Deck settings left old new after long = inr (inr (inl refl))
 long_in Gen settings left old new after long = absurd long
 
+-- Where neither the source nor the sink failed, the status is among those of the mode.
 ended_unfailed : (settings : Settings) (status : Status) (o : Outside) (after : Tree) → EndsAs settings status o after
     → o.reads_now ≡ o.reads_before → o.reads_before < 2 ^ 64 - 1 → o.writes_now ≡ o.writes_before → o.writes_before < 2 ^ 64 - 1 → EndsUnfailed settings.mode (code_of status)
 ended_unfailed settings Done o after ended r0 r1 w0 w1 = done_in settings.mode
