@@ -1,3 +1,4 @@
+// The lease of a node that is lent: the arena has nothing at its place until the lease is given back.
 ghost use Rattle.std.specs.Prelude.{◌≡◌};
 ghost use Rattle.std.specs.Borrow.{sem};
 ghost use Rattle.palm_arena.specs.LendsNode.{LendsNode};

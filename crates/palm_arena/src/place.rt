@@ -1,3 +1,4 @@
+// What stands at a place of the arena: a node, a node that is away, or nothing.
 ghost use Rattle.std.specs.Prelude.{◌≡◌};
 
 use palm_node::Node;

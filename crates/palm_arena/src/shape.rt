@@ -1,3 +1,4 @@
+// Where a tree stands in an arena: its root and its height. The nodes below are found from there.
 use palm_node::NodeId;
 
 /// Where a tree stands in an arena.

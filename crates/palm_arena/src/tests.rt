@@ -1,3 +1,4 @@
+// Batches on an arena that are kept and taken back, the ids that they leave free, and nodes that are lent twice.
 ghost use Rattle.std.specs.Prelude.{◌≡◌, ◌<◌, None, IsSome, IfOk};
 ghost use Rattle.palm_arena.specs.ArenaState.{IsHeld, NoneLent};
 

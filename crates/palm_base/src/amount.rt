@@ -1,3 +1,4 @@
+// Rates and limits: whole numbers within their bounds, so that a value of these types needs no further test.
 ghost use Rattle.std.specs.Prelude.{◌≡◌, ◌≤◌, ◌&&◌, nat_le, if◌then◌else◌, Some, None};
 
 use std::marker::Model;

@@ -1,3 +1,4 @@
+// Want of memory, the one error of most calls.
 ghost use Rattle.std.specs.Prelude.{codes, Some};
 
 use std::alloc::{AllocError, AllocFailed};

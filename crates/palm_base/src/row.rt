@@ -1,3 +1,4 @@
+// Rows, and lists of them.
 ghost use Rattle.std.specs.Prelude.{◌≡◌, ◌<◌, ◌++◌, ◌∷◌, [], length, ◌==◌, slice_get, Some, OnOk, OnErr, IfOk};
 
 use crate::amount::Amount;
@@ -9,7 +10,9 @@ use std::marker::Model;
 /// A prefix and its rate.
 #[derive(Clone, Copy, Debug, PartialEq, Eq)]
 pub struct Row {
+    /// The prefix, of which a table has one row at most.
     pub prefix: Digits,
+    /// The rate, in the user's unit.
     pub rate: Amount,
 }
 

@@ -1,3 +1,4 @@
+// The search for a row in a table, which is sorted by key.
 ghost use Rattle.std.specs.Prelude.{MatchResult};
 ghost use Rattle.palm_base.specs.Table.{IsTable};
 ghost use Rattle.palm_base.specs.Place.{IsRowAt, IsGapAt};

@@ -1,3 +1,4 @@
+// The counter of steps. It is there for contracts alone: nothing may depend on it when the program runs.
 ghost use Rattle.std.specs.Prelude.{◌≡◌, ◌+◌, ◌<◌};
 
 use std::marker::Model;

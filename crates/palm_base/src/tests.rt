@@ -1,3 +1,4 @@
+// Keys, texts, rates, limits and rows at chosen values.
 ghost use Rattle.std.specs.Prelude.{◌≡◌, ◌<◌};
 
 use super::*;

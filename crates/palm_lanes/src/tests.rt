@@ -1,3 +1,4 @@
+// Searches among no, some and all of sixteen keys, in rising order and in others.
 ghost use Rattle.std.specs.Prelude.{◌≤◌};
 
 use super::*;

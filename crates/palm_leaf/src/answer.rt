@@ -1,3 +1,4 @@
+// What leaves answer the parts of calls.
 use palm_base::{Amount, RowList};
 use palm_node::{Changes, ItemList};
 use palm_route::Part;
@@ -14,7 +15,9 @@ pub enum LeafAnswer {
 /// A part with what its leaf answers.
 #[derive(Debug, Drop)]
 pub struct PartAnswer {
+    /// The part.
     pub part: Part,
+    /// What its leaf answers it.
     pub answer: LeafAnswer,
 }
 

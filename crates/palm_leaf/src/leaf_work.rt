@@ -15,10 +15,12 @@ use palm_base::{MOST_LEAF_ROWS, Row};
 use palm_node::{Leaf, Node, Path, piece_size, pieces};
 use palm_share::Job;
 
-/// A new leaf, with the key of its first row.
+/// A new leaf, which has no id yet.
 #[derive(Debug, Drop)]
 pub struct NewLeaf {
+    /// The packed key of its first row.
     pub low: u64,
+    /// Its rows.
     pub leaf: Leaf,
 }
 
@@ -46,7 +48,9 @@ pub struct LeafPlan<'a> {
 /// A lent leaf with its plan. It can't be dropped, since its lease has to be given back.
 #[derive(Debug)]
 pub struct LeafWork<'a> {
+    /// The leaf.
     pub lease: Lease,
+    /// What is to be done with it.
     pub plan: LeafPlan<'a>,
 }
 

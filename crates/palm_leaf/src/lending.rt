@@ -24,7 +24,9 @@ use std::sync::ledger::Ledger;
 /// A leaf that was given back, with what came of its plan.
 #[derive(Debug, Drop)]
 pub struct LeafDone<'a> {
+    /// Where the leaf is.
     pub id: NodeId,
+    /// Its plan, with the answers and with the rows that are left.
     pub plan: LeafPlan<'a>,
 }
 

@@ -14,6 +14,7 @@ use palm_route::{Ask, Part};
 /// A part of a leaf, with room for what it is answered.
 #[derive(Debug, Drop)]
 pub struct Asked {
+    /// The part.
     pub part: Part,
     /// The rate that the part's key had before the part.
     pub rate: Option<Amount>,

@@ -26,8 +26,11 @@ use std::sync::ledger::Ledger;
 /// What comes of the leaves, as far as they are settled.
 #[derive(Debug, Drop)]
 pub struct Gathered {
+    /// The answers to the parts, leaf by leaf.
     pub answers: AnswerList,
+    /// What stands for each leaf.
     pub nodes: ChangeList,
+    /// The rows of the removed leaves.
     pub loose: Vec<Row>,
 }
 
@@ -187,7 +190,8 @@ fn part_count(done: &[LeafDone<'_>]) -> usize {
     count
 }
 
-/// Settles all leaves, which are listed from the last to the first.
+/// Settles all leaves, which are listed from the last to the first. It counts a step for each later leaf. `NoMemory` where
+/// memory was refused: what was done so far stays, so the batch has to be rolled back.
 pub fn settle_leaves<L: Ledger>(
     alloc: Global,
     arena: &mut Arena,

@@ -1,3 +1,4 @@
+// Parts resolved over the rows of one leaf, and the leaves that many rows are cut into.
 ghost use Rattle.std.specs.Prelude.{◌≡◌, IfOk};
 ghost use Rattle.std.specs.List.{AllByRecursion};
 ghost use Rattle.palm_leaf.specs.Routed.{HasKey};

@@ -13,10 +13,12 @@ use palm_arena::Lease;
 use palm_base::MOST_CHILDREN;
 use palm_node::{Change, Inner, Node, NodeId, Path, Piece, piece_size, pieces};
 
-/// A later node of those that stand for one: its low bound, and the node, which has no id yet.
+/// A later node of those that stand for one, which has no id yet.
 #[derive(Drop)]
 pub struct Part {
+    /// The packed key at which its range begins.
     pub low: u64,
+    /// Its children and the keys between them.
     pub node: Inner,
 }
 
@@ -126,11 +128,15 @@ fn rework(inner: &mut Inner, changes: &[Change], children: &mut Vec<Piece>, late
     cut_later(children, later);
 }
 
-/// The work on an inner node whose children changed: its lease, the changes of its children, and the room that it needs.
+/// The work on an inner node whose children changed.
 pub struct LevelWork<'a> {
+    /// The node.
     pub lease: Lease,
+    /// The changes of its children, from left to right.
     pub changes: &'a [Change],
+    /// Room for its children, which are listed here when it is made anew.
     pub children: Vec<Piece>,
+    /// Room for the nodes past the first that the children are cut into.
     pub later: Vec<Part>,
 }
 

@@ -18,26 +18,34 @@ use palm_base::{MOST_CHILDREN, NoMemory};
 use palm_node::{Change, Inner, Node, NodeId, Path, Piece, PieceList, pieces};
 use std::alloc::Global;
 
-/// An inner node with children that changed: where it is, the way to it, its low, and the changes of its children.
+/// An inner node with children that changed.
 #[derive(Drop)]
 pub struct Parent<'a> {
+    /// Where it is.
     pub node: NodeId,
+    /// The way to it from the root.
     pub path: Path,
+    /// Its low, as its parent has written it: a packed key, and 0 of a first child.
     pub low: u64,
+    /// The changes of its children, from left to right.
     pub changes: &'a [Change],
 }
 
 /// The room that the work on a node needs.
 #[derive(Drop)]
 pub struct Room {
+    /// For what stands for its children.
     pub children: Vec<Piece>,
+    /// For the nodes past the first that these are cut into.
     pub later: Vec<Part>,
 }
 
 /// A node with the room to make it anew, and without it where it stays as it is.
 #[derive(Drop)]
 pub struct Planned<'a> {
+    /// The node.
     pub parent: Parent<'a>,
+    /// The room to make it anew.
     pub room: Option<Room>,
 }
 
@@ -191,7 +199,7 @@ fn find_parent<'a>(arena: &Arena, run: &'a [Change]) -> Parent<'a>
     }
 }
 
-/// The parents of the changes, each with the room to make it anew, in order.
+/// The parents of the changes, each with the room to make it anew, in order. `NoMemory` where room was refused.
 pub fn plan_all<'a>(
     alloc: Global,
     arena: &Arena,

@@ -24,7 +24,9 @@ use std::sync::ledger::Ledger;
 
 /// The work on a node whose children changed, with its lease where it is made anew.
 pub struct Task<'a> {
+    /// The node.
     pub parent: Parent<'a>,
+    /// The work with its lease. None where the node stays as it is.
     pub work: Option<LevelWork<'a>>,
 }
 
@@ -66,7 +68,7 @@ fn start<'a, L: Ledger>(
     Ok(Task { parent, work })
 }
 
-// Whether so few children are left that their node goes.
+/// Whether so few children are left that their node goes: some, and fewer than `LEAST_CHILDREN`.
 pub fn is_few(children: &[Piece]) -> bool
     ensures { result ≡ is_small LEAST_CHILDREN children.now }
 {
@@ -199,7 +201,8 @@ fn finish<L: Ledger>(
     Ok(())
 }
 
-/// Lends the nodes of all parents that are made anew. The tasks stand in the other order.
+/// Lends the nodes of all parents that are made anew, a step for each. The tasks stand in the other order. `NoMemory` where
+/// memory was refused: the nodes of the tasks that are listed are lent.
 pub fn lend_all<'a, L: Ledger>(
     arena: &mut Arena,
     planned: Vec<Planned<'a>>,

@@ -1,3 +1,4 @@
+// When a parent stays as it is, and how many children are few.
 use super::plan::all_stand_alone;
 use super::task::is_few;
 use palm_node::{Change, NodeId, Path, Piece, PieceList};

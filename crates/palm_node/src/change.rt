@@ -1,3 +1,4 @@
+// What a pass makes of the nodes of a level, as the level below tells the one above.
 use crate::id::{NodeId, Piece};
 use crate::list::ItemList;
 use crate::path::Path;
@@ -26,8 +27,9 @@ pub struct Change {
 /// A node that a pass removed.
 #[derive(Clone, Copy, Debug, PartialEq, Eq)]
 pub struct Removed {
-    /// Its level, counted from the leaves.
+    /// Its level, counted from the leaves at 1.
     pub level: u32,
+    /// Where it is.
     pub id: NodeId,
 }
 

@@ -1,3 +1,4 @@
+// How a list is cut into pieces of nearly one length, none longer than a width: the longer ones come first.
 ghost use Rattle.std.specs.Prelude.{◌≡◌, ◌<◌, ◌≤◌};
 ghost use Rattle.palm_base.specs.Cut as cut;
 

@@ -1,3 +1,4 @@
+// Lists of items, which contracts see as plain lists.
 ghost use Rattle.std.specs.Prelude.{◌≡◌, ◌<◌, ◌++◌, ◌∷◌, [], length, ◌==◌, slice_get, Some, OnOk, OnErr};
 
 use palm_base::NoMemory;

@@ -1,3 +1,4 @@
+// A node: a leaf or an inner node. It has all that it needs in itself, so that it moves and is copied as a whole.
 ghost use Rattle.std.specs.Prelude.{◌≡◌};
 
 use crate::inner::Inner;
@@ -6,7 +7,9 @@ use crate::leaf::Leaf;
 /// A node of the tree.
 #[derive(Debug, Drop)]
 pub enum Node {
+    /// A node of rows.
     Leaf(Leaf),
+    /// A node of children, which are one level lower.
     Inner(Inner),
 }
 

@@ -1,3 +1,4 @@
+// The way down to a node, kept in fixed room.
 ghost use Rattle.std.specs.Prelude.{◌≡◌, ◌<◌, ◌≤◌, ◌++◌, ◌∷◌, [], length, ◌==◌, slice_get, Some};
 
 use crate::id::NodeId;

@@ -1,3 +1,4 @@
+// Cuts, leaves, inner nodes and paths at chosen values, and how wide nodes are.
 ghost use Rattle.std.specs.Prelude.{◌≤◌};
 ghost use Rattle.std.specs.List.Sorted.{IsStrictlyIncreasing};
 ghost use Rattle.palm_base.specs.Table.{IsTable};

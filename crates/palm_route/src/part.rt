@@ -1,3 +1,4 @@
+// Parts of calls, routed parts, and groups of them.
 ghost use Rattle.std.specs.Prelude.{◌≡◌, length, ◌==◌};
 
 use palm_base::{Amount, Digits, Limit};
@@ -21,8 +22,11 @@ pub enum Ask {
     Look,
     /// Lists rows from one prefix to another, both included, as many as the limit allows.
     List {
+        /// The least prefix that is shown.
         from: Digits,
+        /// The greatest prefix that is shown.
         to: Digits,
+        /// How many rows the whole list shows at most.
         limit: Limit,
     },
 }
@@ -36,6 +40,7 @@ pub struct Part {
     pub number: u64,
     /// The packed key by which it is routed.
     pub key: u64,
+    /// What it asks of its leaf.
     pub ask: Ask,
 }
 
@@ -56,6 +61,7 @@ impl Part {
 /// A part with the leaf whose range has its key.
 #[derive(Debug, Drop)]
 pub struct Routed {
+    /// The part.
     pub part: Part,
     /// The leaf.
     pub leaf: NodeId,

@@ -1,3 +1,4 @@
+// Parts put together by leaf, and the way of calls down an empty tree.
 ghost use Rattle.std.specs.Prelude.{◌≡◌, ◌<◌, ◌≤◌, IfOk};
 ghost use Rattle.palm_arena.specs.Reads.{map_of, HasTree};
 ghost use Rattle.palm_share.specs.declared.share.TheConstants.{MOST_WORKERS};

@@ -1,3 +1,5 @@
+// The gate that is passed before each piece of work. No answer may depend on it.
+
 /// Who passes the gate.
 #[derive(Clone, Copy, Debug, PartialEq, Eq)]
 pub enum Who {

@@ -1,3 +1,4 @@
+// Work in shares, by fork and join: every worker is done before the call that started it returns.
 ghost use Rattle.std.specs.Prelude.{◌≡◌, ◌≤◌, ◌<◌, length, All};
 ghost use Rattle.std.specs.List.{AllZip};
 ghost use Rattle.palm_share.specs.Jobs.{Holds, Relates};

@@ -1,3 +1,4 @@
+// Workers beside each other, and the gate that each item passes.
 ghost use Rattle.std.specs.Prelude.{◌≡◌, ◌+◌, ◌<◌};
 
 use super::*;

@@ -1,3 +1,4 @@
+// Trees of one to three levels that are built, and looked up by prefix, by number and by range.
 ghost use Rattle.palm_base.specs.Table.{IsTable};
 
 use super::*;

@@ -17,8 +17,11 @@ use std::sync::ledger::{Blank, Ledger};
 /// that the latest batch moved. `tree_in` is the tree that they are, without the ids.
 #[derive(Debug, Drop)]
 pub struct Tree {
+    /// The nodes, by their ids.
     pub arena: Arena,
+    /// Where the tree stands among them.
     pub shape: Shape,
+    /// How many rows the leaves have in all.
     pub rows: u64,
 }
 
