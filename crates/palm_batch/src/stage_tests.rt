@@ -29,7 +29,7 @@ fn assert_rise(rt: &impl Abort, rows: &[Row])
     }
 }
 
-// The tree that is built from the rows of these numbers, each at itself as its rate.
+/// The tree that is built from the rows of these numbers, each at itself as its rate.
 pub fn built(rt: &impl Abort, alloc: Global, from: u64, to: u64) -> Result<Tree, Fail> {
     let mut rows = RowList::new(alloc);
     for number in from..=to {

@@ -1,3 +1,4 @@
+// Replies to batches: each call is answered on the table that the calls before it leave.
 ghost use Rattle.std.specs.Prelude.{◌≡◌, ◌<◌, ◌≤◌, length, IfOk};
 ghost use Rattle.palm_base.specs.Key.{key};
 ghost use Rattle.palm_share.specs.declared.share.TheConstants.{MOST_WORKERS};

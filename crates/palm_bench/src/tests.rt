@@ -1,3 +1,4 @@
+// What words plan, and that the replies to a run are those of an ordinary map, however it is cut.
 use super::*;
 use std::alloc::{AllocError, Global};
 use std::test::Fail;

@@ -1,3 +1,4 @@
+// What a deck says, and what may be wrong with one. The numbers of its faults are the codes that the program reports.
 ghost use Rattle.std.specs.Prelude.{◌≡◌, ◌==◌, length};
 
 use palm_base::Entry;
@@ -82,8 +83,13 @@ pub enum DeckWhy {
 pub enum DeckFault {
     /// Memory was refused while they were read.
     NoMemory,
-    /// They are no deck: the record of this number, counted from 1, is the first with a fault, and this is its fault.
-    Bad { row: u64, why: DeckWhy },
+    /// They are no deck: this record is the first with a fault.
+    Bad {
+        /// The number of the record, counted from 1.
+        row: u64,
+        /// What is wrong with it.
+        why: DeckWhy,
+    },
 }
 
 impl fmt::Display for DeckFault {

@@ -1,3 +1,4 @@
+// What decks say, the faults of other bytes, and tables written as decks.
 use crate::{Deck, DeckFault, DeckWhy, read_deck, write_deck};
 use palm_base::{Amount, Call, Digits, Entry, Row, RowList};
 use std::alloc::Global;

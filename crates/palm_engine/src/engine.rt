@@ -1,3 +1,4 @@
+// The engine: a tree, and batches of the first entries of a roll. All that it does to the tree it does by `run_batch`.
 ghost use Rattle.std.specs.Prelude.{◌≡◌, ◌+◌, ◌≤◌, [], length, take, IfOk, OnOk, OnErr};
 ghost use Rattle.std.proofs.Common.{zero};
 ghost use Rattle.palm_share.specs.declared.share.TheConstants.{MOST_WORKERS};

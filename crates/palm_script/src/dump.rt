@@ -1,3 +1,4 @@
+// When a transcript shows the tree.
 ghost use Rattle.std.specs.Prelude.{◌≡◌};
 ghost use Rattle.palm_script.specs.Transcript.{dumps_batches, dumps_end};
 

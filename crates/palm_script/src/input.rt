@@ -1,3 +1,4 @@
+// Reading a source whole, up to a bound, before anything is made of its bytes.
 ghost use Rattle.std.specs.Prelude.{◌≡◌, ◌≤◌, ◌<◌, ℕ, List, [], length, IfOk, OnOk};
 ghost use Rattle.std.specs.Io.KnownBytes.{Consumes};
 ghost use Rattle.palm_script.specs.Input.{IsRead, is_whole};
@@ -35,7 +36,9 @@ impl InputEnd {
 /// What was read of a source: at most `MOST_BYTES` bytes, and how the reading ended.
 #[derive(Debug, Drop)]
 pub struct Input {
+    /// The bytes.
     pub bytes: Vec<u8>,
+    /// How the reading ended.
     pub end: InputEnd,
 }
 

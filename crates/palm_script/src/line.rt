@@ -1,3 +1,4 @@
+// What a line of a script says, and what may be wrong with one. The numbers of its faults are the codes that the program reports.
 ghost use Rattle.std.specs.Prelude.{◌≡◌, ◌≢◌, ◌≤◌, ◌<◌, ◌∷◌, [], if◌then◌else◌, Ok, Err, length, not, position, MatchOption, IfSome, IfOk, IfErr};
 ghost use Rattle.std.specs.List.{position_or_len};
 ghost use Rattle.palm_base.specs.Prefix.{digits_in};
@@ -20,7 +21,12 @@ pub enum Line {
     /// Nothing: it has no fields, or its first field begins with `#`.
     Skip,
     /// A call, and who makes it.
-    Made { caller: u32, call: Call },
+    Made {
+        /// The caller, a number from 0 to `MOST_CALLER`.
+        caller: u32,
+        /// The call.
+        call: Call,
+    },
     /// The batch or section ends here.
     Cut,
     /// The batch or section ends here, and then the tree is dumped.
@@ -56,6 +62,7 @@ pub enum LineWhy {
 pub struct LineFault {
     /// Its number in the script, counted from 1.
     pub line: u64,
+    /// What is wrong with it.
     pub why: LineWhy,
 }
 

@@ -1,3 +1,4 @@
+// Sources and sinks in memory, for tests: what they give, take and refuse is chosen when they are made.
 ghost use Rattle.std.specs.Prelude.{◌≡◌, ◌≤◌, ◌<◌, ◌+◌, ◌-◌, ◌^◌, [], ◌++◌, length, drop, take, min, Contains, Some, ◌⊎◌, IsErr, IfOk, ◌↔◌};
 ghost use Rattle.std.specs.Io.{ReadsAtMost, WritesAtMost};
 ghost use Rattle.std.specs.Io.KnownBytes.{ReadConsumes, WriteAppends};

@@ -1,3 +1,4 @@
+// Writing a text whole to a sink that may take it in pieces.
 ghost use Rattle.std.specs.Prelude.{ℕ, ◌≤◌, length, take, OnOk, OnErr};
 ghost use Rattle.std.specs.Io.KnownBytes.{Appends};
 ghost use Rattle.palm_script.specs.Causes.{HasCause};

@@ -1,3 +1,4 @@
+// What a script says as a whole: calls in sections, up to the first faulty line.
 ghost use Rattle.std.specs.Prelude.{◌≡◌, ◌≤◌, ◌<◌, ◌+◌, ◌∷◌, [], ◌++◌, false, length, sum_by, position, All, MatchOption, IfSome, IfNone, IfOk, OnOk, IsSome, List, ℕ, Bool};
 ghost use Rattle.palm_script.specs.Script.{is_feed, without_return as without, lines_of, next_entry, entries_from, script_of, AreCounts, Says};
 
@@ -23,6 +24,7 @@ pub struct Script {
     pub entries: Vec<Entry>,
     /// The ends of the sections, in order. The calls behind the last end are a section too.
     pub ends: Vec<SectionEnd>,
+    /// The fault of the first faulty line. None where each line is good.
     pub fault: Option<LineFault>,
 }
 

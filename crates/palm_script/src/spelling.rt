@@ -1,3 +1,4 @@
+// Lines in their plain spelling, which reads back as the line.
 ghost use Rattle.std.specs.Prelude.{◌≡◌, ◌++◌, OnOk, OnErr};
 ghost use Rattle.palm_base.specs.Extends.{Extends};
 ghost use Rattle.palm_script.specs.Spelling.{call_text, plain_text, line_text};

@@ -1,3 +1,4 @@
+// Sources and sinks over the readers and writers of std. They tell as much as those do.
 ghost use Rattle.std.specs.Prelude.{◌≡◌};
 
 use crate::traits::{Failed, Sink, Source};

@@ -1,3 +1,4 @@
+// Lines and replies as they are printed, and sources and sinks that give, take and fail in pieces.
 use super::*;
 use palm_base::{Amount, Call, Digits, Limit, NoMemory, Reply, Row, RowList};
 use std::alloc::Global;
