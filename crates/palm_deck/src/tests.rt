@@ -75,63 +75,68 @@ fn decks_say_edits(rt: HostRuntime) -> Result<(), Fail> {
     Ok(())
 }
 
+// The first fault of bytes that are no deck is this one.
+fn assert_fault(rt: &impl Abort, alloc: Global, bytes: &[u8], row: u64, why: DeckWhy) {
+    match read_deck(alloc, bytes) {
+        Ok(_) => panic!(rt; "a deck"),
+        Err(fault) => assert_eq!(rt; fault, DeckFault::Bad { row, why }),
+    }
+}
+
 #[test]
-fn other_bytes_have_a_first_fault(rt: HostRuntime) -> Result<(), Fail> {
-    for (bytes, row, why) in [
-        (b"".as_slice(), 1, DeckWhy::Header),
-        (b"\n\n".as_slice(), 1, DeckWhy::Header),
-        (b"set,4,7\n".as_slice(), 1, DeckWhy::Header),
-        (b"op,prefix\n".as_slice(), 1, DeckWhy::Header),
-        (b"op,prefix,rate,\n".as_slice(), 1, DeckWhy::Header),
-        (b"Op,prefix,rate\n".as_slice(), 1, DeckWhy::Header),
-        (b"op, prefix,rate\n".as_slice(), 1, DeckWhy::Header),
-        (
-            b"\xEF\xBB\xBF\xEF\xBB\xBF\xEF\xBB\xBFop,prefix,rate\n".as_slice(),
-            1,
-            DeckWhy::Header,
-        ),
-        (b"op,prefix,rate\nset,4\n".as_slice(), 2, DeckWhy::Fields),
-        (
-            b"op,prefix,rate\nput,4x,1,\n".as_slice(),
-            2,
-            DeckWhy::Fields,
-        ),
-        (b"op,prefix,rate\nput,4,1\n".as_slice(), 2, DeckWhy::Op),
-        (b"op,prefix,rate\nSet,4x,1\n".as_slice(), 2, DeckWhy::Op),
-        (b"op,prefix,rate\n,,\n".as_slice(), 2, DeckWhy::Op),
-        (b"op,prefix,rate\nset,4x,7\n".as_slice(), 2, DeckWhy::Prefix),
-        (b"op,prefix,rate\nset,,-1\n".as_slice(), 2, DeckWhy::Prefix),
+fn bytes_without_a_header_are_no_deck(rt: HostRuntime) -> Result<(), Fail> {
+    for bytes in [
+        b"".as_slice(),
+        b"\n\n".as_slice(),
+        b"set,4,7\n".as_slice(),
+        b"op,prefix\n".as_slice(),
+        b"op,prefix,rate,\n".as_slice(),
+        b"Op,prefix,rate\n".as_slice(),
+        b"op, prefix,rate\n".as_slice(),
+        b"\xEF\xBB\xBF\xEF\xBB\xBF\xEF\xBB\xBFop,prefix,rate\n".as_slice(),
+    ] {
+        assert_fault(&rt, rt.alloc(), bytes, 1, DeckWhy::Header);
+    }
+    Ok(())
+}
+
+#[test]
+fn other_records_have_a_first_fault(rt: HostRuntime) -> Result<(), Fail> {
+    for (bytes, why) in [
+        (b"op,prefix,rate\nset,4\n".as_slice(), DeckWhy::Fields),
+        (b"op,prefix,rate\nput,4x,1,\n".as_slice(), DeckWhy::Fields),
+        (b"op,prefix,rate\nput,4,1\n".as_slice(), DeckWhy::Op),
+        (b"op,prefix,rate\nSet,4x,1\n".as_slice(), DeckWhy::Op),
+        (b"op,prefix,rate\n,,\n".as_slice(), DeckWhy::Op),
+        (b"op,prefix,rate\nset,4x,7\n".as_slice(), DeckWhy::Prefix),
+        (b"op,prefix,rate\nset,,-1\n".as_slice(), DeckWhy::Prefix),
         (
             b"op,prefix,rate\nset,1234567890123456,7\n".as_slice(),
-            2,
             DeckWhy::Prefix,
         ),
-        (b"op,prefix,rate\ndel,4x,1\n".as_slice(), 2, DeckWhy::Prefix),
-        (b"op,prefix,rate\ndel,4,1\n".as_slice(), 2, DeckWhy::Rate),
-        (b"op,prefix,rate\nset,4,\n".as_slice(), 2, DeckWhy::Rate),
-        (b"op,prefix,rate\nset,4, 7\n".as_slice(), 2, DeckWhy::Rate),
+        (b"op,prefix,rate\ndel,4x,1\n".as_slice(), DeckWhy::Prefix),
+        (b"op,prefix,rate\ndel,4,1\n".as_slice(), DeckWhy::Rate),
+        (b"op,prefix,rate\nset,4,\n".as_slice(), DeckWhy::Rate),
+        (b"op,prefix,rate\nset,4, 7\n".as_slice(), DeckWhy::Rate),
         (
             b"op,prefix,rate\nset,4,1000000000000\n".as_slice(),
-            2,
             DeckWhy::Rate,
         ),
         (
             b"op,prefix,rate\nset,4,000000000000000000007\n".as_slice(),
-            2,
-            DeckWhy::Rate,
-        ),
-        // The first record with a fault counts, and lines without bytes don't.
-        (
-            b"op,prefix,rate\n\nset,4,1\n\nset,4,x\nput,4,1\n".as_slice(),
-            3,
             DeckWhy::Rate,
         ),
     ] {
-        match read_deck(rt.alloc(), bytes) {
-            Ok(_) => panic!(rt; "a deck"),
-            Err(fault) => assert_eq!(rt; fault, DeckFault::Bad { row, why }),
-        }
+        assert_fault(&rt, rt.alloc(), bytes, 2, why);
     }
+    Ok(())
+}
+
+// Lines without bytes are no records.
+#[test]
+fn the_first_faulty_record_counts(rt: HostRuntime) -> Result<(), Fail> {
+    let bytes = b"op,prefix,rate\n\nset,4,1\n\nset,4,x\nput,4,1\n".as_slice();
+    assert_fault(&rt, rt.alloc(), bytes, 3, DeckWhy::Rate);
     Ok(())
 }
 

@@ -133,6 +133,17 @@ fn left_by<R: Threads + Sync + Abort>(
     left_with::<R, Brand>(rt, alloc, history, max, workers, Blank::new(1))
 }
 
+// The rows of these numbers, as a leaf's line shows them.
+fn append_numbers(from: u64, to: u64, text: &mut Vec<u8>) -> Result<(), NoMemory> {
+    for number in from..=to {
+        append(b" ", text)?;
+        append_prefix(number, text)?;
+        append(b" ", text)?;
+        append_number(number, text)?;
+    }
+    Ok(())
+}
+
 // The text of a shape: the lines above its leaves, and of each leaf the begin of its line and the numbers whose rows follow.
 fn shape_text(
     alloc: Global,
@@ -143,12 +154,7 @@ fn shape_text(
     append(upper.as_bytes(), &mut text)?;
     for (begin, from, to) in leaves {
         append(begin.as_bytes(), &mut text)?;
-        for number in *from..=*to {
-            append(b" ", &mut text)?;
-            append_prefix(number, &mut text)?;
-            append(b" ", &mut text)?;
-            append_number(number, &mut text)?;
-        }
+        append_numbers(*from, *to, &mut text)?;
         append(b"\n", &mut text)?;
     }
     Ok(text)
@@ -170,68 +176,79 @@ inner 13 116 132 148 164 180 196 212 228 244 260 276 292
 inner 12 324 340 356 372 388 404 420 436 452 468 484
 ";
 
+// A history leaves this shape, whatever the workers.
+fn assert_left<R: Threads + Sync + Abort>(
+    rt: &R,
+    alloc: Global,
+    history: &[Edits],
+    max: u32,
+    expected: &[u8],
+) -> Result<(), NoMemory>
+    requires one { 1 ≤ max }
+    requires most { max ≤ MOST_CALLS }
+{
+    for workers in [1, 3, MOST_WORKERS] {
+        let left = left_by(rt, alloc, history, max, workers)?;
+        assert!(rt;
+            left.as_slice() == expected,
+            "{history:?}, {workers} workers"
+        );
+    }
+    Ok(())
+}
+
 #[test]
 fn histories_leave_their_shapes(rt: HostRuntime) -> Result<(), Fail> {
     use Edits::{Dels, Sets};
     let alloc = rt.alloc();
     let full = full_leaves();
-    let three = "tree 2 34\ninner 3 22 33\n";
-    let alone = "tree 2 34\ninner 3 19 28\n";
     let merged = "tree 2 23\ninner 2 33\n";
-    let cases: [(&[Edits], u32, &str, &[(&str, u64, u64)]); 8] = [
-        (&[Sets(10, 25)], ALL, "tree 1 16\n", &[("leaf 16", 10, 25)]),
+    let cases: [(&[Edits], &str, &[(&str, u64, u64)]); 6] = [
+        (&[Sets(10, 25)], "tree 1 16\n", &[("leaf 16", 10, 25)]),
         (
             &[Sets(10, 26)],
-            ALL,
             "tree 2 17\ninner 2 19\n",
             &[("leaf 9", 10, 18), ("leaf 8", 19, 26)],
         ),
         (
             &[Sets(10, 26), Dels(26, 26)],
-            ALL,
             "tree 1 16\n",
             &[("leaf 16", 10, 25)],
         ),
         (
-            &[Sets(10, 43)],
-            ALL,
-            three,
-            &[
-                ("leaf 12", 10, 21),
-                ("leaf 11", 22, 32),
-                ("leaf 11", 33, 43),
-            ],
-        ),
-        (
-            &[Sets(10, 43)],
-            1,
-            alone,
-            &[("leaf 9", 10, 18), ("leaf 9", 19, 27), ("leaf 16", 28, 43)],
-        ),
-        (
             &[Sets(10, 43), Dels(10, 21), Sets(5, 5)],
-            ALL,
             merged,
             &[("leaf 12 05 5", 22, 32), ("leaf 11", 33, 43)],
         ),
-        (&[Sets(100, 499)], ALL, THREE_LEVELS, &full),
+        (&[Sets(100, 499)], THREE_LEVELS, &full),
         (
             &[Sets(100, 499), Dels(110, 499)],
-            ALL,
             "tree 1 10\n",
             &[("leaf 10", 100, 109)],
         ),
     ];
-    for (history, max, upper, leaves) in cases {
+    for (history, upper, leaves) in cases {
         let expected = shape_text(alloc, upper, leaves)?;
-        for workers in [1, 3, MOST_WORKERS] {
-            let left = left_by(&rt, alloc, history, max, workers)?;
-            assert!(rt;
-                left.as_slice() == expected.as_slice(),
-                "{history:?}, {workers} workers"
-            );
-        }
+        assert_left(&rt, alloc, history, ALL, &expected)?;
     }
+    Ok(())
+}
+
+// The same calls leave other shapes in one batch and in a batch for each call.
+#[test]
+fn shapes_go_by_the_cutting(rt: HostRuntime) -> Result<(), Fail> {
+    let alloc = rt.alloc();
+    let history = [Edits::Sets(10, 43)];
+    let together = [
+        ("leaf 12", 10, 21),
+        ("leaf 11", 22, 32),
+        ("leaf 11", 33, 43),
+    ];
+    let expected = shape_text(alloc, "tree 2 34\ninner 3 22 33\n", &together)?;
+    assert_left(&rt, alloc, &history, ALL, &expected)?;
+    let alone = [("leaf 9", 10, 18), ("leaf 9", 19, 27), ("leaf 16", 28, 43)];
+    let expected = shape_text(alloc, "tree 2 34\ninner 3 19 28\n", &alone)?;
+    assert_left(&rt, alloc, &history, 1, &expected)?;
     Ok(())
 }
 
