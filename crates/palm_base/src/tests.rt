@@ -86,7 +86,7 @@ fn orders_prefixes(rt: HostRuntime) {
 }
 
 #[test]
-fn bounds_amounts_and_limits(rt: HostRuntime) {
+fn bounds_amounts(rt: HostRuntime) {
     for (value, accepted) in [
         (0, true),
         (1, true),
@@ -95,6 +95,10 @@ fn bounds_amounts_and_limits(rt: HostRuntime) {
     ] {
         assert_eq!(rt; Amount::new(value).is_some(), accepted);
     }
+}
+
+#[test]
+fn bounds_limits(rt: HostRuntime) {
     for (value, accepted) in [(0, false), (1, true), (1_000, true), (1_001, false)] {
         assert_eq!(rt; Limit::new(value).is_some(), accepted);
     }

@@ -142,8 +142,27 @@ mod tests {
     use std::process::Abort;
     use std::test::Fail;
 
-    // The entries of a script, each as `caller:place`, then the ends of its sections, each as `|calls`, or `!calls` where it
-    // dumps, and the line of its fault.
+    // Appends entries, each as `caller:place`.
+    fn show_entries(alloc: Global, entries: &[Entry], shown: &mut String) -> Result<(), Fail> {
+        for entry in entries {
+            let caller = entry.caller;
+            let place = entry.place;
+            shown.push_str(&format!(in alloc; " {caller}:{place}")?)?;
+        }
+        Ok(())
+    }
+
+    // Appends ends of sections, each as `|calls`, or `!calls` where it dumps.
+    fn show_ends(alloc: Global, ends: &[SectionEnd], shown: &mut String) -> Result<(), Fail> {
+        for end in ends {
+            let mark = if end.dumps { "!" } else { "|" };
+            let calls = end.calls;
+            shown.push_str(&format!(in alloc; " {mark}{calls}")?)?;
+        }
+        Ok(())
+    }
+
+    // A script has these entries and ends, and its fault is on this line.
     fn reads(
         rt: &impl Abort,
         alloc: Global,
@@ -156,16 +175,8 @@ mod tests {
         assert!(rt; bytes.len() <= MOST_BYTES);
         let script = read_script(alloc, bytes, whole)?;
         let mut shown = String::new(alloc);
-        for entry in &script.entries {
-            let caller = entry.caller;
-            let place = entry.place;
-            shown.push_str(&format!(in alloc; " {caller}:{place}")?)?;
-        }
-        for end in &script.ends {
-            let mark = if end.dumps { "!" } else { "|" };
-            let calls = end.calls;
-            shown.push_str(&format!(in alloc; " {mark}{calls}")?)?;
-        }
+        show_entries(alloc, &script.entries, &mut shown)?;
+        show_ends(alloc, &script.ends, &mut shown)?;
         assert_eq!(rt; shown.as_str(), entries, "{text}");
         assert_eq!(rt; script.fault.map(|fault| fault.line), line, "{text}");
         Ok(())
