@@ -1,7 +1,7 @@
 //! How prefixes, rates and rows are written. Each call appends to a buffer. Where memory is refused, part of what it appends
 //! may stand there: what stood there before still does, so that the caller can take the rest back.
 
-ghost use Rattle.std.specs.Prelude.{◌≡◌, ◌++◌, codes, OnOk};
+ghost use Rattle.std.specs.Prelude.{◌≡◌, ◌++◌, OnOk};
 ghost use Rattle.std.specs.Fmt.{decimal};
 ghost use Rattle.palm_base.specs.Extends.{Extends};
 ghost use Rattle.palm_base.specs.Text.{digits_text, row_text, listed_row_text, rows_text};

@@ -1,5 +1,5 @@
 // Replies to batches: each call is answered on the table that the calls before it leave.
-ghost use Rattle.std.specs.Prelude.{◌≡◌, ◌<◌, ◌≤◌, length, IfOk};
+ghost use Rattle.std.specs.Prelude.{◌≡◌, ◌<◌, ◌≤◌, length};
 ghost use Rattle.palm_base.specs.Key.{key};
 ghost use Rattle.palm_share.specs.declared.share.TheConstants.{MOST_WORKERS};
 ghost use Rattle.palm_leaf.specs.declared.answer.LeafAnswer.TheVariants.{Old};

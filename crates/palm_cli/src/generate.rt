@@ -19,7 +19,7 @@ use crate::stop::Stop;
 use palm_base::{Entry, NoMemory, Steps};
 use palm_engine::Engine;
 use palm_gen::{Tally, append_calls, laws, print_summary};
-use palm_script::{Sink, Source, write_all};
+use palm_script::{Sink, write_all};
 use palm_share::Gate;
 use palm_tree::Tree;
 use palm_words::Settings;

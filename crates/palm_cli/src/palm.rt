@@ -1,5 +1,5 @@
 //! The top call: the words are read, the mode that they set is run, and the error stream is told how it ended.
-ghost use Rattle.std.specs.Prelude.{◌≡◌, ◌+◌, ◌<◌, ◌≤◌, true, false, ◌^◌, ◌-◌, ◌⊎◌, [], map, IfSome, None, string_bytes, List, ℕ};
+ghost use Rattle.std.specs.Prelude.{◌≡◌, ◌+◌, ◌<◌, ◌^◌, ◌-◌, ◌⊎◌, [], map, IfSome, None, string_bytes, List, ℕ};
 ghost use Rattle.std.specs.Io.KnownBytes.{Consumes};
 ghost use Rattle.std.proofs.Common.{zero};
 ghost use Rattle.palm_base.specs.Lawful.{IsLawful};

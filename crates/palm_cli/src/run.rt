@@ -17,9 +17,7 @@ use crate::batch::answer_batch;
 use crate::stop::Stop;
 use palm_base::{Entry, NoMemory, Reply, Steps};
 use palm_engine::Engine;
-use palm_script::{
-    Failed, MOST_BYTES, SectionEnd, Sink, print_batch, print_end, print_reply, write_all,
-};
+use palm_script::{MOST_BYTES, SectionEnd, Sink, print_batch, print_end, print_reply, write_all};
 use palm_share::Gate;
 use palm_tree::Tree;
 use palm_words::Settings;

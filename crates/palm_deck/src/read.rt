@@ -1,5 +1,5 @@
 // Reading a deck: record by record, so that one record stands in memory beside the entries.
-ghost use Rattle.std.specs.Prelude.{◌≡◌, ◌≢◌, ◌+◌, ◌++◌, ◌∷◌, [], if◌then◌else◌, length, Ok, Err, MatchOption, OnOk, IfOk, IfErr};
+ghost use Rattle.std.specs.Prelude.{◌≡◌, ◌≢◌, ◌+◌, ◌∷◌, [], if◌then◌else◌, length, Ok, Err, MatchOption, OnOk, IfOk, IfErr};
 ghost use Rattle.csv.specs.Records.{fields_of};
 ghost use Rattle.palm_base.specs.Numbers.{value_of};
 ghost use Rattle.palm_base.specs.Prefix.{digits_in};

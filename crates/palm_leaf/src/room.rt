@@ -1,5 +1,5 @@
 // Room for all that may come of a leaf, made before the leaves are worked on, so that the work can't fail.
-ghost use Rattle.std.specs.Prelude.{◌≡◌, ◌<◌, true, false, ◌≤◌, ◌+◌, ◌==◌, if◌then◌else◌, length, map, IfOk};
+ghost use Rattle.std.specs.Prelude.{◌≡◌, ◌<◌, true, false, ◌≤◌, ◌+◌, ◌==◌, if◌then◌else◌, map, IfOk};
 ghost use Rattle.std.specs.List.{AllByRecursion};
 ghost use Rattle.palm_base.specs.declared.bounds.TheConstants.{MOST_LEAF_ROWS};
 ghost use Rattle.palm_leaf.specs.Asked.{all_look, part_of, HasRoom};

@@ -1,6 +1,6 @@
 // Leaves that were given back are settled: the later leaves of each are put into the arena, and one that isn't kept is
 // dropped. Where memory is refused the batch is abandoned, so what was done so far stays as it is.
-ghost use Rattle.std.specs.Prelude.{◌≡◌, ◌≤◌, ◌+◌, ◌++◌, ◌∷◌, [], List, length, map, reverse, sum_by, Some, IsSome, IfOk, OnOk, vec_len};
+ghost use Rattle.std.specs.Prelude.{◌≡◌, ◌≤◌, ◌+◌, ◌++◌, ◌∷◌, [], List, length, map, reverse, sum_by, Some, IsSome, IfOk, OnOk};
 ghost use Rattle.palm_base.specs.declared.row.Row.{Row};
 ghost use Rattle.palm_node.specs.declared.node.Node.TheVariants.{Leaf};
 ghost use Rattle.palm_arena.specs.ArenaState.{node_at, NoneLent};
@@ -10,15 +10,15 @@ ghost use Rattle.palm_leaf.specs.Asked.{answered};
 ghost use Rattle.palm_leaf.specs.Answers.{rows_at};
 ghost use Rattle.palm_leaf.specs.Ends.{LeavesEnd};
 ghost use Rattle.palm_leaf.specs.Settling.{AreTaken, EndsAs, EndsWith, end_of_done, done_cells, answers_of_done};
-ghost use Rattle.palm_leaf.specs.Worked.{low_and_rows, answers_of_plan};
+ghost use Rattle.palm_leaf.specs.Worked.{low_and_rows};
 
-use crate::answer::{AnswerList, LeafAnswer, LeafOutcome, PartAnswer};
+use crate::answer::{AnswerList, LeafAnswer, PartAnswer};
 use crate::leaf_work::{LeafPlan, NewLeaf};
 use crate::lending::LeafDone;
 use crate::rows::Asked;
 use palm_arena::Arena;
 use palm_base::{NoMemory, Row, RowList, Steps};
-use palm_node::{Change, ChangeList, Changes, Node, NodeId, Path, Piece, PieceList, RemovedList};
+use palm_node::{Change, ChangeList, Node, NodeId, Path, Piece, PieceList};
 use palm_route::Ask;
 use std::alloc::Global;
 use std::sync::ledger::Ledger;

@@ -1,14 +1,12 @@
 // One inner node of a level: from what stands for its children to what stands for it.
 ghost use Rattle.std.specs.Prelude.{◌≡◌, ◌+◌, ◌-◌, ◌<◌, ◌≤◌, ◌++◌, [], ◌∷◌, length, take, drop, slice_index_or, map};
 ghost use Rattle.std.specs.Vec.{vec_len, vec_capacity};
-ghost use Rattle.std.specs.List.Sorted.{IsStrictlyIncreasing};
 ghost use Rattle.palm_base.specs.Cut.{piece_count, cut};
 ghost use Rattle.std.specs.List.{AllByRecursion};
-ghost use Rattle.palm_node.specs.InnerNode.{IsInner, Rise, inner_over, later_lows};
-ghost use Rattle.palm_level.specs.Splices.{last_step, children_of, children_left, spliced, PlacesRise};
+ghost use Rattle.palm_node.specs.InnerNode.{IsInner, Rise, later_lows};
+ghost use Rattle.palm_level.specs.Splices.{last_step, children_of, children_left, PlacesRise};
 ghost use Rattle.palm_level.specs.Works.{part_over, first_node, parts_left, CanSplice, IsReady, HasRun};
 
-use arrayvec::ArrayVec;
 use palm_arena::Lease;
 use palm_base::MOST_CHILDREN;
 use palm_node::{Change, Inner, Node, NodeId, Path, Piece, piece_size, pieces};

@@ -1,14 +1,11 @@
 // What is done to the parents of changed nodes: who they are, which of them are made anew, and the room for that.
-ghost use Rattle.std.specs.Prelude.{◌≡◌, ◌+◌, ◌-◌, ◌<◌, ◌≤◌, ◌∷◌, [], length, take, drop, map, sum_by, true, false, IfOk, Some, IsSome, MatchOption};
+ghost use Rattle.std.specs.Prelude.{◌≡◌, ◌+◌, ◌-◌, ◌<◌, ◌≤◌, ◌∷◌, length, take, drop, map, true, false, IfOk, Some, MatchOption};
 ghost use Rattle.std.specs.List.{AllByRecursion};
-ghost use Rattle.std.specs.Vec.{vec_len};
 ghost use Rattle.palm_node.specs.InnerNode.{IsInner};
 ghost use Rattle.palm_node.specs.declared.node.Node.TheVariants as node;
-ghost use Rattle.palm_arena.specs.ArenaState.{IsHeld};
 ghost use Rattle.palm_arena.specs.Reads.{map_of};
 ghost use Rattle.palm_level.specs.Splices.{last_step, path_above, children_left, PlacesRise};
-ghost use Rattle.palm_level.specs.Works.{CanSplice};
-ghost use Rattle.palm_level.specs.Runs.{parent_of, runs};
+ghost use Rattle.palm_level.specs.Runs.{runs};
 ghost use Rattle.palm_level.specs.Groups.{touched_of, is_alone, is_still, low_at};
 ghost use Rattle.palm_level.specs.Plans.{Fits, IsInnerAt, CanWork, IsRoomAt, planned_key, touched_by, piece_total, HasRoom, IsPlanned};
 

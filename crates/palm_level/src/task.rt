@@ -1,21 +1,19 @@
 // The work on the touched nodes of a level: their nodes are lent, made anew beside each other, and given back.
-ghost use Rattle.std.specs.Prelude.{◌≡◌, ◌+◌, ◌<◌, ◌≤◌, ◌++◌, ◌∷◌, [], length, drop, map, reverse, sum_by, Some, None, IsSome, is_some, IfOk, OnOk, OnErr};
-ghost use Rattle.std.specs.List.{flat_map, AllByRecursion};
+ghost use Rattle.std.specs.Prelude.{◌≡◌, ◌+◌, ◌<◌, ◌≤◌, ◌∷◌, [], length, map, sum_by, Some, None, IsSome, IfOk, OnOk, OnErr};
+ghost use Rattle.std.specs.List.{AllByRecursion};
 ghost use Rattle.std.specs.Vec.{vec_len, vec_capacity};
 ghost use Rattle.palm_base.specs.Pass.{is_small};
 ghost use Rattle.palm_base.specs.declared.bounds.TheConstants.{LEAST_CHILDREN};
 ghost use Rattle.palm_node.specs.declared.node.Node.{Node};
 ghost use Rattle.palm_node.specs.declared.id.NodeId.{NodeId};
-ghost use Rattle.palm_arena.specs.ArenaState.{place_at, IsLent, NoneLent};
+ghost use Rattle.palm_arena.specs.ArenaState.{IsLent, NoneLent};
 ghost use Rattle.palm_arena.specs.Reads.{map_of};
-ghost use Rattle.palm_arena.specs.Cells.{Turns};
-ghost use Rattle.palm_level.specs.Groups.{touched_of, is_still};
-ghost use Rattle.palm_level.specs.Plans.{IsPlanned, planned_key, touched_by};
-ghost use Rattle.palm_level.specs.Tasks.{StandsForAny, FinishesAny, planned_id, Distinct, HasLent, IsTask, later_of, HasFinished, TaskIsLent, TaskComesHome, Took, SameLent, PutsBackAny, later_count, WorkIsLent, Starts, IsThere, LentTo, ComesHome, TaskIsReady, TaskIsDone, WorkIsReady, WorkIsDone, WorkMayRun, TaskRan, task_key, lent_of, times_worked, lent_at, Finishes};
+ghost use Rattle.palm_level.specs.Plans.{IsPlanned};
+ghost use Rattle.palm_level.specs.Tasks.{StandsForAny, FinishesAny, planned_id, Distinct, HasLent, IsTask, later_of, HasFinished, TaskIsLent, TaskComesHome, Took, SameLent, PutsBackAny, later_count, WorkIsLent, Starts, IsThere, LentTo, ComesHome, WorkMayRun, TaskRan};
 
 use crate::node_work::{LevelWork, Part};
 use crate::plan::{Parent, Planned};
-use palm_arena::{Arena, Lease};
+use palm_arena::Arena;
 use palm_base::{LEAST_CHILDREN, NoMemory, Steps};
 use palm_node::{Change, Changes, Node, NodeId, Piece, PieceList, Removed, RemovedList};
 use palm_share::Job;

@@ -6,7 +6,7 @@
 //
 // It is 264 bytes wide. The keys stand side by side in words, so that a look-up compares eight of them at once where they
 // are, and as many of them count as there are rates. A row's prefix is made of its key again, at no cost.
-ghost use Rattle.std.specs.Prelude.{◌≡◌, ◌≤◌, ◌<◌, ◌==◌, [], length, take, slice_get, Some};
+ghost use Rattle.std.specs.Prelude.{◌≡◌, ◌≤◌, ◌<◌, ◌==◌, length, take, slice_get, Some};
 ghost use Rattle.std.specs.List.{AllByRecursion};
 ghost use Rattle.arrayvec.specs.ArrayVec.{array_vec_len};
 ghost use Rattle.palm_base.specs.Key.{IsKey};

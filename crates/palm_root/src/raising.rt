@@ -1,5 +1,5 @@
 // The levels of nodes over pieces, up to the one that is the root.
-ghost use Rattle.std.specs.Prelude.{◌≡◌, ◌+◌, ◌<◌, ◌≤◌, ◌==◌, if◌then◌else◌, length, OnOk, IfOk, IsSome};
+ghost use Rattle.std.specs.Prelude.{◌≡◌, ◌+◌, ◌<◌, ◌≤◌, ◌==◌, if◌then◌else◌, length, IfOk, IsSome};
 ghost use Rattle.palm_base.specs.Cut.{piece_count};
 ghost use Rattle.palm_base.specs.Pass.{first_low};
 ghost use Rattle.palm_node.specs.InnerNode.{Rise, later_lows};

@@ -6,7 +6,7 @@ ghost use Rattle.palm_arena.specs.ArenaState.{NoneLent};
 ghost use Rattle.palm_arena.specs.Reads.{map_of};
 ghost use Rattle.palm_arena.specs.Cells.{Cell, Owns};
 ghost use Rattle.palm_arena.specs.Placed.{value_of};
-ghost use Rattle.palm_arena.specs.Standing.{Kept, kept_rows};
+ghost use Rattle.palm_arena.specs.Standing.{Kept};
 ghost use Rattle.palm_arena.specs.Passes.{Pass, IsPass, outcome_of};
 ghost use Rattle.palm_root.specs.Sweeps.{StandsIn, IsSwept, AreSwept, HoldsRemoved};
 ghost use Rattle.std.specs.List.Sorted.{IsNonDecreasingBy};

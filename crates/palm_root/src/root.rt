@@ -2,7 +2,7 @@
 //
 // Where what is left is as it was, the root stays. Else it goes, and what is left has new levels over it, up to one node that
 // is the root: of no pieces it is an empty leaf, and one piece is the root itself.
-ghost use Rattle.std.specs.Prelude.{◌≡◌, ◌+◌, ◌-◌, ◌*◌, ◌≤◌, ◌<◌, ◌∷◌, true, length, List, ℕ, IfOk, OnOk, IsSome, Some, MatchOption};
+ghost use Rattle.std.specs.Prelude.{◌≡◌, ◌+◌, ◌-◌, ◌*◌, ◌≤◌, ◌<◌, ◌∷◌, true, length, ℕ, IfOk, OnOk, IsSome, Some, MatchOption};
 ghost use Rattle.palm_node.specs.declared.change.Change.{Change};
 ghost use Rattle.palm_arena.specs.ArenaState.{NoneLent, IsHeld};
 ghost use Rattle.palm_arena.specs.Reads.{map_of};

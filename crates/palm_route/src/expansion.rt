@@ -1,5 +1,5 @@
 // The parts of calls: those that ask one leaf each.
-ghost use Rattle.std.specs.Prelude.{◌≡◌, ◌≤◌, ◌++◌, ◌∷◌, [], List, ℕ, filter, IfOk, OnOk};
+ghost use Rattle.std.specs.Prelude.{◌≡◌, ◌++◌, ◌∷◌, [], List, ℕ, filter, IfOk, OnOk};
 ghost use Rattle.palm_arena.specs.Leaves.{leaves_at, leaves_under};
 ghost use Rattle.palm_arena.specs.Reads.{map_of, HasTree};
 ghost use Rattle.palm_base.specs.Key.{key};

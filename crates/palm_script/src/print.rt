@@ -1,5 +1,5 @@
 // The lines of a transcript. Each is appended whole or not at all.
-ghost use Rattle.std.specs.Prelude.{◌≡◌, ◌++◌, codes, OnOk, OnErr};
+ghost use Rattle.std.specs.Prelude.{◌≡◌, ◌++◌, OnOk, OnErr};
 ghost use Rattle.palm_base.specs.Extends.{Extends};
 ghost use Rattle.palm_script.specs.Transcript.{answer_text, reply_line, batch_line, end_line};
 

@@ -1,6 +1,6 @@
 // What a script says as a whole: calls in sections, up to the first faulty line.
-ghost use Rattle.std.specs.Prelude.{◌≡◌, ◌≤◌, ◌<◌, ◌+◌, ◌∷◌, [], ◌++◌, false, length, sum_by, position, All, MatchOption, IfSome, IfNone, IfOk, OnOk, IsSome, List, ℕ, Bool};
-ghost use Rattle.palm_script.specs.Script.{is_feed, without_return as without, lines_of, next_entry, entries_from, script_of, AreCounts, Says};
+ghost use Rattle.std.specs.Prelude.{◌≡◌, ◌≤◌, ◌<◌, ◌+◌, ◌∷◌, [], ◌++◌, false, length, sum_by, position, All, MatchOption, IfSome, IfNone, IfOk, OnOk};
+ghost use Rattle.palm_script.specs.Script.{is_feed, without_return as without, lines_of, next_entry, script_of, AreCounts, Says};
 
 use crate::input::MOST_BYTES;
 use crate::line::{Line, LineFault, MOST_CALLER, read_line};

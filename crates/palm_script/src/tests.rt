@@ -1,6 +1,6 @@
 // Lines and replies as they are printed, and sources and sinks that give, take and fail in pieces.
 use super::*;
-use palm_base::{Amount, Call, Digits, Limit, NoMemory, Reply, Row, RowList};
+use palm_base::{Amount, Call, Digits, Limit, Reply, Row, RowList};
 use std::alloc::Global;
 use std::process::Abort;
 use std::test::Fail;

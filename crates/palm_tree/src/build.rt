@@ -6,7 +6,7 @@
 //     rows     1 .. 16 | 17 .. 32 | ..  | 286 .. 300      19 leaves of 16 or 15 rows
 //     level 1  leaves 1 .. 10        | leaves 11 .. 19     2 nodes of 10 and 9 children
 //     level 2  both of them                                the root
-ghost use Rattle.std.specs.Prelude.{◌≡◌, ◌<◌, ◌≤◌, ◌==◌, if◌then◌else◌, [], length, map, IfOk, OnOk, None, IsSome};
+ghost use Rattle.std.specs.Prelude.{◌≡◌, ◌<◌, ◌==◌, if◌then◌else◌, [], length, map, IfOk, OnOk, None, IsSome};
 ghost use Rattle.std.proofs.Common.{zero};
 ghost use Rattle.palm_base.specs.Table.{row_key, IsTable};
 ghost use Rattle.palm_base.specs.Lows.{PrefixesHold};

@@ -1,6 +1,6 @@
 // A tree's shape as text, level by level.
 ghost use Rattle.std.specs.Prelude.{◌≡◌, ◌++◌, ◌∷◌, [], OnOk, OnErr};
-ghost use Rattle.std.specs.List.{flat_map, AllByRecursion};
+ghost use Rattle.std.specs.List.{AllByRecursion};
 ghost use Rattle.palm_base.specs.Extends.{Extends};
 ghost use Rattle.palm_base.specs.Key.{IsKey};
 ghost use Rattle.palm_base.specs.Shape.{leaf_line, separator_text, shape_text};
