@@ -54,7 +54,7 @@ fn read_through<S: Source>(
     buf: &mut [u8],
     bytes: &mut Vec<u8>,
 ) -> Result<InputEnd, NoMemory>
-    requires empty { bytes.old.items ≡ [] }
+    requires none { bytes.old.items ≡ [] }
     requires buffer { 0 < length buf.old }
     ensures read { IfOk result (λ end. IsRead (S.left src.old) (S.left src.new) (S.faults src.old) (S.faults src.new) bytes.new.items end) }
     ensures most { OnOk result (length bytes.new.items ≤ MOST_BYTES) }

@@ -83,7 +83,7 @@ fn add_entry(
 // Adds the end of the section under way, which has `calls` calls. A new one with none begins.
 fn end_section(ends: &mut Vec<SectionEnd>, calls: &mut u32, dumps: bool) -> Result<(), NoMemory>
     ensures added { OnOk result (ends.new.items ≡ ends.old.items ++ (record { calls = calls.old; dumps = dumps }) ∷ []) }
-    ensures begun { OnOk result (calls.new ≡ 0) }
+    ensures zero { OnOk result (calls.new ≡ 0) }
 {
     ends.push(SectionEnd {
         calls: *calls,
