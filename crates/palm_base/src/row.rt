@@ -93,7 +93,7 @@ impl RowList {
         Ok(())
     }
 
-    /// A second list of the same rows.
+    /// A second list of the same rows. `NoMemory` where room for it was refused.
     pub fn try_copy(&self) -> Result<RowList, NoMemory>
         ensures { IfOk result (λ copy. copy ≡ self.now) }
     {

@@ -35,7 +35,7 @@ pub struct Passed {
     pub orphans: RowList,
 }
 
-// The parts of a batch, put together by leaf.
+// The parts of a batch, put together by leaf. `NoMemory` where room for them was refused.
 pub(crate) fn route<R: Threads + Sync, G: Gate + Sync>(
     rt: &R,
     alloc: Global,
@@ -57,7 +57,7 @@ pub(crate) fn route<R: Threads + Sync, G: Gate + Sync>(
     Ok(groups)
 }
 
-// Does the levels above the leaves, up to below the root.
+// Does the levels above the leaves, up to below the root. `NoMemory` where memory was refused: the batch has to be rolled back.
 pub(crate) fn change_levels<R: Threads + Sync, G: Gate + Sync, L: Ledger>(
     rt: &R,
     alloc: Global,

@@ -57,7 +57,7 @@ fn take_level<L: Ledger>(
 }
 
 // Puts the nodes into an arena of the levels over a level, up to one that is the root. The level stands so many levels above
-// the leaves.
+// the leaves. `NoMemory` where room was refused: what was put stays, so the batch has to be rolled back.
 pub(crate) fn raise<L: Ledger>(
     alloc: Global,
     lowest: PieceList,

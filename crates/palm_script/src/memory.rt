@@ -154,6 +154,7 @@ impl Model for MemSink {
 impl MemSink {
     /// An empty sink for at most `room` bytes, which it reserves. A write takes at most `most` bytes. It fails and
     /// takes nothing where its number, counted from 0, is in `fails`, or the room is full and there is a byte to take.
+    /// `NoMemory` where the room was refused.
     pub fn new(
         alloc: Global,
         room: usize,
