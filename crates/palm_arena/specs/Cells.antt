@@ -27,6 +27,7 @@ found (Some node) = One node
 abbrev pub Cell : Type 0
 Cell = NodeId × Node
 
+-- What one cell has at an id, by whether the id is its own.
 abbrev pub found_if : Bool → Node → Found
 found_if true node = One node
 found_if false node = Nothing

@@ -54,9 +54,11 @@ pub record Kept : Type 0 where
   pub below : ℕ
   pub place : Placed below
 
+-- The cells of a removed node and of all that is under it.
 abbrev pub kept_cells : Kept → List Cell
 kept_cells kept = cells_of kept.below kept.place
 
+-- The rows under a removed node, from left to right.
 abbrev pub kept_rows : Kept → List Row
 kept_rows kept = rows_in kept.below (value_in kept.below kept.place.1)
 

@@ -9,6 +9,7 @@ use Rattle.palm_base.specs.declared.call.Call.TheVariants.{Set, Del, Get, Rate, 
 use Rattle.palm_base.specs.declared.call.Reply.{Reply}
 use Rattle.palm_base.specs.declared.call.Reply.TheVariants.{New, Was, Gone, Absent, Value, Hit, Rows}
 
+-- The key of a row: that of its prefix. So the row of 1 at 5 has the key 0x1000000000000001.
 abbrev pub row_key : Row → ℕ
 row_key row = key row.prefix
 
@@ -51,10 +52,12 @@ best_for number rows = longest (filter (λ row. begins row.prefix number) rows)
 abbrev pub lies_within : ℕ → ℕ → Row → Bool
 lies_within from to row = nat_le from (row_key row) && nat_le (row_key row) to
 
+-- The reply by what is found, and Absent where that is nothing.
 abbrev pub or_absent : {X : Type 0} → (X → Reply) → Option X → Reply
 or_absent found None = Absent
 or_absent found (Some x) = found x
 
+-- The reply to a Set, by the rate that its prefix had. So it is Was 5 where that is 5, and New where there is none.
 abbrev pub new_or_was : Option ℕ → Reply
 new_or_was None = New
 new_or_was (Some old) = Was old

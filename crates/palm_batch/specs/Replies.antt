@@ -105,6 +105,7 @@ FindsRows (Get prefix) n = ⊥
 FindsRows (Rate number) n = ⊥
 FindsRows (Listing from to limit) n = n ≤ limit
 
+-- What a leaf answers may be of a part of the call by this key: a rate of any other than a List, and rows of a List.
 abbrev pub MayAnswer : Call → ℕ → LeafAnswer → Type 0
 MayAnswer call k (Old old) = FindsRate call k
 MayAnswer call k (Found rows) = FindsRows call (length rows)
@@ -168,6 +169,7 @@ is_new (Value rate) = false
 is_new (Hit row) = false
 is_new (Rows rows) = false
 
+-- The reply tells of a row that was taken out. So Gone 5 does, and Absent doesn't.
 abbrev pub is_gone : Reply → Bool
 is_gone New = false
 is_gone (Was old) = false

@@ -16,6 +16,7 @@ kind_named word =
     else if bytes_eq word (codes "rates") then Some Rates
     else None
 
+-- The call is a Set.
 abbrev pub IsSet : Call → Type 0
 IsSet (Set prefix rate) = Unit {0}
 IsSet (Del prefix) = ⊥
@@ -23,6 +24,7 @@ IsSet (Get prefix) = ⊥
 IsSet (Rate number) = ⊥
 IsSet (Listing from to limit) = ⊥
 
+-- The call is a Del.
 abbrev pub IsDel : Call → Type 0
 IsDel (Set prefix rate) = ⊥
 IsDel (Del prefix) = Unit {0}
@@ -30,6 +32,7 @@ IsDel (Get prefix) = ⊥
 IsDel (Rate number) = ⊥
 IsDel (Listing from to limit) = ⊥
 
+-- The call is a Get.
 abbrev pub IsGet : Call → Type 0
 IsGet (Set prefix rate) = ⊥
 IsGet (Del prefix) = ⊥
@@ -37,6 +40,7 @@ IsGet (Get prefix) = Unit {0}
 IsGet (Rate number) = ⊥
 IsGet (Listing from to limit) = ⊥
 
+-- The call is a Rate.
 abbrev pub IsRate : Call → Type 0
 IsRate (Set prefix rate) = ⊥
 IsRate (Del prefix) = ⊥

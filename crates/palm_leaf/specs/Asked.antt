@@ -44,6 +44,7 @@ answer_with (ask.List from to limit) old found = Found found
 abbrev pub answered : Asked → PartAnswer
 answered asked = record { part = asked.part; answer = answer_with asked.part.ask asked.rate asked.found.items }
 
+-- The part that was asked.
 abbrev pub part_of : Asked → Part
 part_of asked = asked.part
 

@@ -25,6 +25,7 @@ AsksRate ask.Del = Unit {0}
 AsksRate ask.Look = Unit {0}
 AsksRate (ask.List from to limit) = ⊥
 
+-- The part asks for a rate.
 abbrev pub IsForRate : Part → Type 0
 IsForRate part = AsksRate part.ask
 

@@ -36,6 +36,7 @@ present [] = []
 present (None ∷ items) = present items
 present (Some x ∷ items) = x ∷ present items
 
+-- The ids of the leaves that are lent for works.
 abbrev pub lease_ids : List LeafWork → List NodeId
 lease_ids works = map (λ work. work.lease.id) works
 

@@ -21,6 +21,7 @@ GoesByKey k ask.Del = IsKey k
 GoesByKey k ask.Look = Unit {0}
 GoesByKey k (ask.List from to limit) = Unit {0}
 
+-- The part, where it is an edit, goes by the key of a prefix.
 abbrev pub HasKey : Part → Type 0
 HasKey part = GoesByKey part.key part.ask
 

@@ -38,6 +38,7 @@ outcome_shown kept low first later rows =
 abbrev pub outcome_of_plan : List Row → LeafPlan → Outcome zero
 outcome_of_plan first plan = outcome_shown plan.kept plan.low first (map low_and_rows plan.later.items) plan.rows.items
 
+-- The parts of a plan, in their order.
 abbrev pub parts_of_plan : LeafPlan → List Part
 parts_of_plan plan = map part_of plan.asked.items
 
@@ -52,6 +53,7 @@ pub record IsPlan (held : ℕ) (plan : LeafPlan) : Type 0 where
   pub not_kept : plan.kept ≡ false
   pub waits : AllByRecursion (IsOpen (held + vec_len plan.asked)) plan.asked.items
 
+-- The parts of a plan with the answers that they were given, in their order.
 abbrev pub answers_of_plan : LeafPlan → List PartAnswer
 answers_of_plan plan = map answered plan.asked.items
 
@@ -71,6 +73,7 @@ pub record IsWorked (rows : List Row) (before after : LeafWork) : Type 0 where
   pub answers : answers_of_plan after.plan ≡ answers_in rows (parts_of_plan before.plan)
   pub outcome : outcome_of_plan (rows_in_node (Some after.lease.node)) after.plan ≡ leaf_left before.plan.least before.plan.low (after_all rows (edits_of (parts_of_plan before.plan)))
 
+-- The work was run, whatever the rows of its leaf were.
 abbrev pub HasRun : LeafWork → LeafWork → Type 0
 HasRun before after = (rows : List Row) → before.lease.node ≡ Leaf rows → IsWorked rows before after
 

@@ -30,6 +30,7 @@ IsPassed l result = values l result.pieces ≡ (site_pass l result.site).pieces
 abbrev pub left_of : {T : Type 0} → ℕ → List (ℕ × T) → List (ℕ × List (ℕ × T))
 left_of low children = let nodes = nodes_over low children in if is_small LEAST_CHILDREN children then [] else nodes
 
+-- The pieces that stand for the nodes of a level, from left to right.
 abbrev pub pieces_under : (l : ℕ) → List (Result l) → List (ℕ × Placed l)
 pieces_under l results = flat_map (λ result. result.pieces) results
 
@@ -37,9 +38,11 @@ pieces_under l results = flat_map (λ result. result.pieces) results
 abbrev pub gone_of : (l : ℕ) → List (ℕ × Placed l) → List Row
 gone_of l children = let rows = rows_under l (values l children) in if is_small LEAST_CHILDREN children then rows else []
 
+-- What stands for the children of a family.
 abbrev pub placed_left : (l : ℕ) → Family l → List (ℕ × Placed l)
 placed_left l family = pieces_under l family.children
 
+-- The nodes that are left of a family's parent, each with its low.
 abbrev pub bodies_left : (l : ℕ) → Family l → List (ℕ × Body (suc l))
 bodies_left l family = left_of family.parent.low (placed_left l family)
 
@@ -60,6 +63,7 @@ kept_after touched l family =
     let kept = record { below = suc l; place = (family.parent.place.0, node_over (placed_left l family)) } ∷ [] in
     if is_worked touched l family && is_small LEAST_CHILDREN (placed_left l family) then kept else []
 
+-- What becomes of a family's parent: its pieces.
 abbrev pub result_after : (NodeId → Bool) → (l : ℕ) → Family l → Result (suc l)
 result_after touched l family = record { site = family.parent; pieces = pieces_after touched l family }
 
@@ -67,11 +71,13 @@ result_after touched l family = record { site = family.parent; pieces = pieces_a
 abbrev pub nodes_before : (NodeId → Bool) → (l : ℕ) → Family l → List Cell
 nodes_before touched l family = let own = cell_of_site (suc l) family.parent ∷ [] in if is_worked touched l family then own else []
 
+-- The cell of a parent that is left with few children, and none where it is left with enough.
 abbrev pub removed_node : (l : ℕ) → Family l → List Cell
 removed_node l family =
     let own = (family.parent.place.0, Inner (record { children = ids_of_children (placed_left l family); separators = separators_of (placed_left l family) })) ∷ [] in
     if is_small LEAST_CHILDREN (placed_left l family) then own else []
 
+-- The cells of the nodes that stand for a touched parent, and of the parent where it is removed.
 abbrev pub nodes_after : (NodeId → Bool) → (l : ℕ) → Family l → List Cell
 nodes_after touched l family =
     let nodes = own_cells l family.ids (bodies_left l family) ++ removed_node l family in
@@ -81,6 +87,7 @@ nodes_after touched l family =
 abbrev pub IsFull : (l : ℕ) → Site (suc l) → Type 0
 IsFull l site = HasFromTo LEAST_CHILDREN MOST_CHILDREN site.place.1 × (next_low (λ child. child.0) 0 site.place.1 ≡ 0)
 
+-- The children of a family are those of its parent.
 abbrev pub IsFamily : (l : ℕ) → Family l → Type 0
 IsFamily l family = map (λ result. result.site) family.children ≡ sites_below l family.parent
 

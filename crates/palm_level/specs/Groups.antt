@@ -55,6 +55,7 @@ pub record Group : Type 0 where
   pub node : InnerNode
   pub ids : List NodeId
 
+-- The pieces that are left of a group's children.
 abbrev pub group_left : Group → List Piece
 group_left group = children_left group.node group.touched.changes
 
@@ -64,6 +65,7 @@ nodes_left low pieces =
     let nodes = with_lows (λ piece. piece.low) inner_over low (cut MOST_CHILDREN pieces) in
     if is_small LEAST_CHILDREN pieces then [] else nodes
 
+-- The nodes that are left of a group, each with its low.
 abbrev pub group_nodes : Group → List (ℕ × InnerNode)
 group_nodes group = nodes_left group.touched.low (group_left group)
 
@@ -73,11 +75,13 @@ cells_at [] nodes = []
 cells_at (id ∷ ids) [] = []
 cells_at (id ∷ ids) (node ∷ nodes) = (id, Inner node.1) ∷ cells_at ids nodes
 
+-- The same nodes as pieces: the low of each, and its id.
 abbrev pub named_pieces : List NodeId → List (ℕ × InnerNode) → List Piece
 named_pieces [] nodes = []
 named_pieces (id ∷ ids) [] = []
 named_pieces (id ∷ ids) (node ∷ nodes) = record { low = node.0; id = id } ∷ named_pieces ids nodes
 
+-- What stands at a group's id before the work.
 abbrev pub cells_before : Group → List Cell
 cells_before group = (group.touched.id, Inner group.node) ∷ []
 
@@ -87,12 +91,15 @@ removed_cell group =
     let own = (group.touched.id, Inner (inner_over (group_left group))) ∷ [] in
     if is_small LEAST_CHILDREN (group_left group) then own else []
 
+-- What stands for a group after the work: its nodes at their ids, and its own where it is to be removed.
 abbrev pub cells_after : Group → List Cell
 cells_after group = cells_at group.ids (group_nodes group) ++ removed_cell group
 
+-- What became of a group's node, as it is listed.
 abbrev pub group_change : Group → Change
 group_change group = record { node = group.touched.id; path = group.touched.path; pieces = named_pieces group.ids (group_nodes group) }
 
+-- The group's node on this level where it is removed, and nothing where it isn't.
 abbrev pub group_removed : ℕ → Group → List Removed
 group_removed level group =
     let own = record { level = level; id = group.touched.id } ∷ [] in

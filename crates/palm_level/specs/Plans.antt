@@ -59,5 +59,6 @@ pub record IsPlanned (nodes : NodeId → Option Node) (planned : Planned) : Type
   pub can : CanWork nodes planned.parent.node planned.parent.changes.now
   pub room : IsRoomAt nodes planned.parent.node planned.parent.changes.now planned.room
 
+-- The touched node of what is planned.
 abbrev pub planned_key : Planned → Touched
 planned_key planned = touched_by planned.parent

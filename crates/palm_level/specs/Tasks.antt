@@ -32,6 +32,7 @@ lent_at Empty = 0
 lent_at Lent = 1
 lent_at (Holds node) = 0
 
+-- Once where it is so, and else not at all.
 abbrev pub times_if : Bool → ℕ
 times_if true = 1
 times_if false = 0
@@ -41,6 +42,7 @@ abbrev pub times_worked : NodeId → Option LevelWork → ℕ
 times_worked id None = 0
 times_worked id (Some work) = times_if (same_place work.lease.id id)
 
+-- The same of a task: how often its work has the lease of an id.
 abbrev pub times_in : NodeId → Option Task → ℕ
 times_in id None = 0
 times_in id (Some task) = times_worked id task.work
@@ -55,9 +57,11 @@ ComesHome old new work = (id : NodeId) → lent_at (place_at new id) + times_wor
 
 -- ---- what a task is of
 
+-- A touched node that stands for none.
 abbrev pub no_one : Touched
 no_one = record { id = record { place = 0 }; path = []; low = 0; changes = [] }
 
+-- The touched node of a task.
 abbrev pub task_key : Option Task → Touched
 task_key None = no_one
 task_key (Some task) = touched_by task.parent
@@ -92,22 +96,26 @@ WorkIsDone nodes id changes (Some work) =
     × (work.children.items ≡ children_left node changes)
     × (work.later.items ≡ map part_over (drop 1 (parts_left node changes))))
 
+-- A task is done: its work has made its node anew.
 abbrev pub TaskIsDone : (NodeId → Option Node) → Option Task → Type 0
 TaskIsDone nodes None = ⊥
 TaskIsDone nodes (Some task) = CanWork nodes task.parent.node task.parent.changes.now × WorkIsDone nodes task.parent.node task.parent.changes.now task.work
 
 -- ---- when a task may run, and what it leaves
 
+-- A work may be run, where there is one.
 abbrev pub WorkMayRun : Option LevelWork → Type 0
 WorkMayRun None = Unit {0}
 WorkMayRun (Some work) = IsReady work
 
+-- A work was run, where there was one, and there is still none where there was none.
 abbrev pub WorkRan : Option LevelWork → Option LevelWork → Type 0
 WorkRan None None = Unit {0}
 WorkRan None (Some after) = ⊥
 WorkRan (Some before) None = ⊥
 WorkRan (Some before) (Some after) = HasRun before after
 
+-- A task was run: it is of the same node, and its work was run.
 pub record TaskRan (before after : Task) : Type 0 where
   pub parent : touched_by after.parent ≡ touched_by before.parent
   pub work : WorkRan before.work after.work
@@ -122,6 +130,7 @@ WorkStarts planned old new (Some room) (Some work) =
     × (work.changes.now ≡ planned.parent.changes.now) × (work.children ≡ room.children) × (work.later ≡ room.later)
     × (new ≡ record old { places = with_place old.places planned.parent.node Lent; moved = old.moved ++ planned.parent.node ∷ [] })
 
+-- A task began with what was planned: it is of the same node, whose lease its work has.
 pub record Starts (planned : Planned) (old new : ArenaState) (task : Task) : Type 0 where
   pub key : touched_by task.parent ≡ touched_by planned.parent
   pub work : WorkStarts planned old new planned.room task.work
@@ -137,15 +146,19 @@ IsThere places planned (Some room) = IsSome (node_at places planned.parent.node)
 abbrev pub itself : Touched → Change
 itself touched = record { node = touched.id; path = touched.path; pieces = record { low = touched.low; id = touched.id } ∷ [] }
 
+-- What becomes of a group's node, whether it is made anew or not.
 abbrev pub change_for : Group → Change
 change_for group = let made = group_change group in if is_still group.touched.changes then itself group.touched else made
 
+-- What a group removes, and nothing where its node stays as it is.
 abbrev pub removed_for : ℕ → Group → List Removed
 removed_for level group = let made = group_removed level group in if is_still group.touched.changes then [] else made
 
+-- What is lent of a group: its node, where that is made anew.
 abbrev pub lent_for : Group → List Cell
 lent_for group = let own = cells_before group in if is_still group.touched.changes then [] else own
 
+-- What stands for a group's node where it is made anew.
 abbrev pub made_for : Group → List Cell
 made_for group = let made = cells_after group in if is_still group.touched.changes then [] else made
 
@@ -200,10 +213,12 @@ PutsBackAny level low work old new before after pieces =
     (node : InnerNode) (changes : List Change) (path : List (NodeId × ℕ)) → MadeOf node changes work
     → (ids : List NodeId) × PutsBack level (record { touched = record { id = work.lease.id; path = path; low = low; changes = changes }; node = node; ids = ids }) old new before after pieces
 
+-- How many nodes a work has made past the one that keeps its id.
 abbrev pub later_count : Option LevelWork → ℕ
 later_count None = 0
 later_count (Some work) = length work.later.items
 
+-- The node of a work is lent, where there is one.
 abbrev pub WorkIsLent : List Place → Option LevelWork → Type 0
 WorkIsLent places None = Unit {0}
 WorkIsLent places (Some work) = IsLent places work.lease.id
@@ -215,6 +230,7 @@ FinishesAny level task old new before after =
 
 -- ---- all tasks
 
+-- The id of the node that is planned.
 abbrev pub planned_id : Planned → NodeId
 planned_id planned = planned.parent.node
 
@@ -229,10 +245,12 @@ pub record HasLent (old new : ArenaState) (planned : List Planned) (tasks : List
   pub ready : AllByRecursion (TaskIsReady (map_of old.places)) tasks
   pub turns : Turns (map_of old.places) (map_of new.places) (flat_map (lent_of (map_of old.places)) (map task_key tasks)) []
 
+-- There is a task.
 abbrev pub IsTask : Option Task → Type 0
 IsTask None = ⊥
 IsTask (Some task) = Unit {0}
 
+-- How many nodes a task's work has made past the one that keeps its id.
 abbrev pub later_of : Option Task → ℕ
 later_of None = 0
 later_of (Some task) = later_count task.work
@@ -247,14 +265,17 @@ pub record FinishesAll (nodes : NodeId → Option Node) (level : ℕ) (old new :
   pub removed : after.removed ≡ before.removed ++ flat_map (removed_for level) groups
   pub loose : after.loose ≡ before.loose
 
+-- Whatever the map was in which the tasks' works are done, they are finished.
 abbrev pub HasFinished : ℕ → ArenaState → ArenaState → List (Option Task) → Changes → Changes → Type 0
 HasFinished level old new tasks before after =
     (nodes : NodeId → Option Node) → AllByRecursion (TaskIsDone nodes) tasks → FinishesAll nodes level old new tasks before after
 
+-- The node of a task's work is lent, where there is one.
 abbrev pub TaskIsLent : List Place → Option Task → Type 0
 TaskIsLent places None = Unit {0}
 TaskIsLent places (Some task) = WorkIsLent places task.work
 
+-- The lease of a task's work comes home, where it has one.
 abbrev pub TaskComesHome : List Place → List Place → Option Task → Type 0
 TaskComesHome old new task = (id : NodeId) → lent_at (place_at new id) + times_in id task ≡ lent_at (place_at old id)
 
@@ -269,6 +290,7 @@ pub record StandsFor (nodes : NodeId → Option Node) (level : ℕ) (touched : T
   pub pieces-are : record { node = touched.id; path = touched.path; pieces = pieces } ≡ change_for group
   pub removed : after ≡ before ++ removed_for level group
 
+-- Whatever the map was in which the work is done, the pieces stand for the node.
 abbrev pub StandsForAny : ℕ → ℕ → NodeId → Option LevelWork → ArenaState → ArenaState → List Removed → List Removed → List Piece → Type 0
 StandsForAny level low id work old new before after pieces =
     (nodes : NodeId → Option Node) (path : List (NodeId × ℕ)) (changes : List Change) → CanWork nodes id changes → WorkIsDone nodes id changes work
@@ -281,6 +303,7 @@ abbrev pub spare_in : Option InnerNode → List Change → ℕ
 spare_in None changes = 0
 spare_in (Some node) changes = length (drop 1 (parts_left node changes))
 
+-- The same of a touched node: none where it stays as it is.
 abbrev pub spare_of : (NodeId → Option Node) → Touched → ℕ
 spare_of nodes touched = let spare = spare_in (inner_in (nodes touched.id)) touched.changes in if is_still touched.changes then 0 else spare
 

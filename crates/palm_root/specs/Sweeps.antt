@@ -27,6 +27,7 @@ abbrev pub children_in : (n : ℕ) → Body n → List Kept
 children_in zero rows = []
 children_in (suc n) children = map (λ child. record { below = n; place = child.1 }) children
 
+-- The children of a removed node.
 abbrev pub kept_children : Kept → List Kept
 kept_children kept = children_in kept.below kept.place.1
 

@@ -14,6 +14,7 @@ IsRead left rest before now bytes Whole = Consumes left rest bytes × IsAtEnd re
 IsRead left rest before now bytes Failed = Consumes left rest bytes × Rose before now
 IsRead left rest before now bytes Long = (more : List ℕ) × Consumes left rest (bytes ++ more) × (length bytes ≡ MOST_BYTES) × (length more ≡ 1) × (now ≡ before)
 
+-- The source was read to its end.
 abbrev pub is_whole : InputEnd → Bool
 is_whole Whole = true
 is_whole Failed = false

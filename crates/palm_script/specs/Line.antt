@@ -25,12 +25,15 @@ is_blank b = b == 32 || b == 9
 abbrev pub fields : List ℕ → List (List ℕ)
 fields text = filter (λ part. nat_lt 0 (length part)) (slice_split is_blank text)
 
+-- A field is a caller: a number from 0 to 63.
 abbrev pub is_caller : List ℕ → Bool
 is_caller field = is_from_to 0 MOST_CALLER field
 
+-- A field is a rate. So "007" is, and "-7" isn't.
 abbrev pub is_rate : List ℕ → Bool
 is_rate field = is_from_to 0 MOST_RATE field
 
+-- A field is a limit: a number from 1 to 1,000.
 abbrev pub is_limit : List ℕ → Bool
 is_limit field = is_from_to 1 MOST_LIMIT field
 

@@ -33,6 +33,7 @@ pub record Outcome : Type 0 where
   pub items : List Line
   pub fault : Option LineFault
 
+-- What a script says by its first line and by the lines behind that: a fault ends it.
 abbrev pub first_then : Result Line LineFault → Outcome → Outcome
 first_then (Err fault) rest = record { items = []; fault = Some fault }
 first_then (Ok Skip) rest = rest
