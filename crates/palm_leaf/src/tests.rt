@@ -6,7 +6,7 @@ ghost use Rattle.palm_leaf.specs.Worked.{IsPlan};
 
 use crate::leaf_work::{LeafPlan, cut_later, resolve_parts};
 use crate::room::plan;
-use palm_base::{Amount, Digits, LEAST_LEAF_ROWS, Limit, MOST_LEAF_ROWS};
+use palm_base::{Amount, Digits, LEAST_LEAF_ROWS, Limit, MOST_LEAF_ROWS, Row};
 use palm_node::{Leaf, Node, NodeId, Path, pieces};
 use palm_route::{Ask, Group, Part, PartList};
 use std::alloc::Global;
@@ -130,6 +130,14 @@ fn cuts_many_rows_in_three(rt: HostRuntime) -> Result<(), Fail> {
     Ok(())
 }
 
+// The rows are those of these prefixes, in their order.
+fn assert_prefixes(rt: &impl Abort, rows: &[Row], prefixes: &[&str]) {
+    assert_eq!(rt; rows.len(), prefixes.len());
+    for (row, prefix) in rows.iter().zip(prefixes) {
+        assert_eq!(rt; row.prefix.key(), digits(rt, prefix).key(), "{prefix}");
+    }
+}
+
 #[test]
 fn lists_rows_from_the_first_key_on(rt: HostRuntime) -> Result<(), Fail> {
     let mut parts = sets(&rt, rt.alloc(), &PREFIXES[..8])?;
@@ -144,10 +152,7 @@ fn lists_rows_from_the_first_key_on(rt: HostRuntime) -> Result<(), Fail> {
     let lists: [&[&str]; 5] = [&["13", "14", "15"], &["14", "15"], &["10"], &[], &[]];
     assert!(rt; plan.asked.len() == 8 + lists.len());
     for (asked, prefixes) in plan.asked[8..].iter().zip(lists) {
-        assert_eq!(rt; asked.found.len(), prefixes.len());
-        for (row, prefix) in asked.found.iter().zip(prefixes) {
-            assert_eq!(rt; row.prefix.key(), digits(&rt, prefix).key(), "{prefix}");
-        }
+        assert_prefixes(&rt, &asked.found, prefixes);
     }
     Ok(())
 }

@@ -72,6 +72,15 @@ fn assert_holds(rt: &impl Abort, leaf: &Leaf, rows: &[Row], count: usize) {
     assert!(rt; leaf.get(u64::MAX).is_none(), "beyond");
 }
 
+// A list of `t` items is cut into pieces of these sizes.
+fn assert_cut(rt: &impl Abort, t: usize, sizes: &[usize]) {
+    assert_eq!(rt; pieces(WIDTH, t), sizes.len());
+    for (i, size) in sizes.iter().enumerate() {
+        assert!(rt; i < pieces(WIDTH, t));
+        assert_eq!(rt; piece_size(WIDTH, t, i), *size, "of {t} at {i}");
+    }
+}
+
 #[test]
 fn cuts_evenly(rt: HostRuntime) {
     let cases: [(usize, &[usize]); 7] = [
@@ -84,11 +93,7 @@ fn cuts_evenly(rt: HostRuntime) {
         (34, &[12, 11, 11]),
     ];
     for (t, sizes) in cases {
-        assert_eq!(rt; pieces(WIDTH, t), sizes.len());
-        for (i, size) in sizes.iter().enumerate() {
-            assert!(rt; i < pieces(WIDTH, t));
-            assert_eq!(rt; piece_size(WIDTH, t, i), *size, "of {t} at {i}");
-        }
+        assert_cut(&rt, t, sizes);
     }
 }
 

@@ -87,6 +87,17 @@ fn two_workers_run_beside_each_other(rt: HostRuntime) -> Result<(), Fail> {
     Ok(())
 }
 
+// Each item was raised once: they began with 10, 20, 30 and so on.
+fn assert_raised(rt: &impl Abort, items: &[Option<Raise>], workers: u32) {
+    for (i, item) in items.iter().enumerate() {
+        assert_eq!(rt;
+            value_of(rt, item),
+            10 * (i as u64 + 1) + 1,
+            "{workers} workers"
+        );
+    }
+}
+
 #[test]
 fn each_item_passes_the_gate_once(rt: HostRuntime) -> Result<(), Fail> {
     for workers in [1, 2, 3, 64] {
@@ -104,13 +115,7 @@ fn each_item_passes_the_gate_once(rt: HostRuntime) -> Result<(), Fail> {
         each_mut(&rt, rt.alloc(), &mut items, workers, &gate);
         assert_eq!(rt; gate.count.load(Ordering::SeqCst), 5, "{workers} workers");
         assert_eq!(rt; gate.sum.load(Ordering::SeqCst), 10, "{workers} workers");
-        for (i, item) in items.iter().enumerate() {
-            assert_eq!(rt;
-                value_of(&rt, item),
-                10 * (i as u64 + 1) + 1,
-                "{workers} workers"
-            );
-        }
+        assert_raised(&rt, &items, workers);
     }
     Ok(())
 }
