@@ -218,6 +218,9 @@ pub fn run_sections<R: Threads + Sync, O: Sink, G: Gate + Sync, L: Ledger>(
 
 /// Writes what stands at the end of a transcript: the tree, where the settings say so, and the last line. They are offered as
 /// one text, for which `text` is room.
+///
+/// `Memory` where memory is refused, and `Write` only where the sink's count of faults rose. The sink has then taken a front of
+/// that text.
 pub fn write_ending<O: Sink>(
     settings: &Settings,
     calls: u64,

@@ -26,7 +26,12 @@ pub enum Status {
     /// The source has more bytes than are taken.
     TooLong,
     /// The record of this number of the deck, counted from 1, has this fault.
-    BadRow { row: u64, why: DeckWhy },
+    BadRow {
+        /// The record's number.
+        row: u64,
+        /// Its fault.
+        why: DeckWhy,
+    },
 }
 
 impl Status {

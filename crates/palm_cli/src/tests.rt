@@ -1,3 +1,4 @@
+// The mode `replay`: worked scripts, the faults of streams, and words that are refused.
 use super::*;
 use palm_script::{MOST_BYTES, MemSink, MemSource, SureSource};
 use std::alloc::Global;

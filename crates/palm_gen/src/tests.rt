@@ -1,3 +1,4 @@
+// The first calls of a seed, calls made piece by piece, and what replies are summed up to.
 ghost use Rattle.std.specs.Prelude.{◌≡◌, length, IfOk};
 
 use crate::{MOST_GENERATED_CALLS, Tally, append_calls, gen_call, print_summary};

@@ -35,7 +35,7 @@ fn command_for<'a>(alloc: Global, names: &[&'a str]) -> Result<Command<'a>, Allo
     command.arg(mode)
 }
 
-/// What `clap` finds in the words, or why it refuses them.
+/// What `clap` finds in the words, or its error: why it refuses them, or that memory was refused.
 pub fn matches_in<'a>(alloc: Global, words: &'a Vec<String>) -> Result<ArgMatches<'a>, Error>
     ensures accepts { IfOk result (λ m. fault_of palm_command (map string_bytes words.now.items) ≡ []) }
     ensures rows { IfOk result (λ m. rows_of (found_of m) ≡ matches_of palm_command (map string_bytes words.now.items)) }

@@ -40,6 +40,7 @@ pub enum Mode {
 /// What the words set. A mode that has no use for a number doesn't look at it.
 #[derive(Clone, Copy, Debug, PartialEq, Eq)]
 pub struct Settings {
+    /// What the program does.
     pub mode: Mode,
     /// How many threads work on a batch.
     pub workers: u32,
@@ -47,6 +48,7 @@ pub struct Settings {
     pub batch: u32,
     /// How many calls a caller may have under way.
     pub window: u32,
+    /// Whether the tree is dumped without a line that asks for it.
     pub dump: DumpWhen,
     /// What generated calls follow from.
     pub seed: u64,

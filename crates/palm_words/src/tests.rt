@@ -1,3 +1,4 @@
+// Words of the form and what they set, and words that aren't of the form.
 use crate::{
     DEFAULT_BATCH, DEFAULT_GENERATED_CALLS, DEFAULT_SEED, DEFAULT_WINDOW, DEFAULT_WORKERS,
     MOST_BATCH, MOST_SEED, MOST_WINDOW, Mode, Settings, WordsFault, read_words,

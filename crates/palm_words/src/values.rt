@@ -10,7 +10,7 @@ use clap::ArgMatches;
 use palm_base::number_from_to;
 use palm_script::DumpWhen;
 
-/// The mode that a word names.
+/// The mode that a word names, and `None` where it names none.
 pub fn mode_named(word: &str) -> Option<Mode>
     ensures { result ≡ mode_named word.now }
 {
@@ -22,7 +22,7 @@ pub fn mode_named(word: &str) -> Option<Mode>
     }
 }
 
-/// When the VALUE of `dump` has the tree dumped.
+/// When the VALUE of `dump` has the tree dumped, and `None` where it is none of the three.
 pub fn dump_named(value: &str) -> Option<DumpWhen>
     ensures { result ≡ dump_named value.now }
 {
@@ -67,7 +67,7 @@ pub fn number_in(
     }
 }
 
-/// `number_in` for an option whose numbers have 32 bits.
+/// `number_in` for an option whose numbers have 32 bits, with `None` where it gives none.
 pub fn small_number_in(
     matches: &ArgMatches,
     name: &str,

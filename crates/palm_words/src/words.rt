@@ -1,3 +1,4 @@
+// The words as a whole: what `clap` found in them is read, and makes the settings.
 ghost use Rattle.std.specs.Prelude.{◌≡◌, Some, None, IfOk, IfSome, IsErrOf, map, string_bytes};
 ghost use Rattle.clap.specs.Words.{found_of};
 ghost use Rattle.palm_words.specs.Settings.{settings_of, AreWithin};
