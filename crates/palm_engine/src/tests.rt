@@ -4,7 +4,7 @@ ghost use Rattle.palm_share.specs.declared.share.TheConstants.{MOST_WORKERS};
 ghost use Rattle.palm_batch.specs.declared.batch.TheConstants.{MOST_CALLS};
 
 use super::*;
-use palm_base::text::{append, append_number};
+use palm_base::text::{append, append_number, append_rows};
 use palm_base::{Amount, Call, Digits, Entry, NoMemory, Steps};
 use palm_share::{MOST_WORKERS, OpenGate};
 use std::alloc::Global;
@@ -85,13 +85,35 @@ fn run_all<R: Threads + Sync + Abort, L: Ledger>(
     Ok(())
 }
 
+// Runs a history to its end. Each of its parts begins a batch of its own.
+fn run_history<R: Threads + Sync + Abort, L: Ledger>(
+    rt: &R,
+    alloc: Global,
+    engine: &mut Engine,
+    history: &[Edits],
+    max: u32,
+    workers: u32,
+    steps: &mut Steps<L>,
+) -> Result<(), NoMemory>
+    requires one { 1 ≤ max }
+    requires most { max ≤ MOST_CALLS }
+    requires some { 1 ≤ workers }
+    requires few { workers ≤ MOST_WORKERS }
+{
+    for edits in history {
+        let roll = roll_of(rt, alloc, *edits)?;
+        run_all(rt, engine, &roll, max, workers, steps)?;
+    }
+    Ok(())
+}
+
 fn shape_of(alloc: Global, engine: &Engine) -> Result<Vec<u8>, NoMemory> {
     let mut text = Vec::new(alloc);
     engine.tree.dump(&mut text)?;
     Ok(text)
 }
 
-// The shape that a history leaves of an empty table. Each of its parts begins a batch of its own.
+// The shape that a history leaves of an empty table.
 fn left_with<R: Threads + Sync + Abort, L: Ledger>(
     rt: &R,
     alloc: Global,
@@ -110,10 +132,7 @@ fn left_with<R: Threads + Sync + Abort, L: Ledger>(
 {
     let mut steps = Steps::<L>::new(blank);
     let mut engine = Engine::new(alloc)?;
-    for edits in history {
-        let roll = roll_of(rt, alloc, *edits)?;
-        run_all(rt, &mut engine, &roll, max, workers, &mut steps)?;
-    }
+    run_history(rt, alloc, &mut engine, history, max, workers, &mut steps)?;
     shape_of(alloc, &engine)
 }
 
@@ -231,6 +250,39 @@ fn histories_leave_their_shapes(rt: HostRuntime) -> Result<(), Fail> {
         let expected = shape_text(alloc, upper, leaves)?;
         assert_left(&rt, alloc, history, ALL, &expected)?;
     }
+    Ok(())
+}
+
+// How many rows a history leaves of an empty table, and each of them.
+fn rows_left_with<R: Threads + Sync + Abort, L: Ledger>(
+    rt: &R,
+    alloc: Global,
+    history: &[Edits],
+    blank: Blank,
+) -> Result<Vec<u8>, NoMemory>
+    requires name { blank.name ≡ L.name }
+    requires parts { blank.parts ≡ L.parts }
+    requires blank { 0 < blank.parts }
+{
+    let mut steps = Steps::<L>::new(blank);
+    let mut engine = Engine::new(alloc)?;
+    run_history(rt, alloc, &mut engine, history, ALL, 1, &mut steps)?;
+    let mut text = Vec::new(alloc);
+    append_rows(&engine.tree.all_rows()?, &mut text)?;
+    Ok(text)
+}
+
+// The first leaf is left too small, and its rows are put in anew.
+#[test]
+fn all_rows_are_those_that_a_history_leaves(rt: HostRuntime) -> Result<(), Fail> {
+    use Edits::{Dels, Sets};
+    let alloc = rt.alloc();
+    let history = [Sets(10, 26), Dels(10, 11), Dels(26, 26)];
+    let left = rows_left_with::<HostRuntime, Brand>(&rt, alloc, &history, Blank::new(1))?;
+    let mut expected = Vec::new(alloc);
+    append(b"14", &mut expected)?;
+    append_numbers(12, 25, &mut expected)?;
+    assert_eq!(rt; left, expected);
     Ok(())
 }
 
