@@ -4,6 +4,7 @@ use Rattle.std.specs.List.{flat_map, AllByRecursion}
 use Rattle.std.specs.List.Sorted.{IsPermutation}
 use Rattle.std.proofs.lemmas.List.Sorted.{IsPermutation-refl, IsPermutation-trans, IsPermutation-append_comm, IsPermutation-append_left, IsPermutation-append_right}
 use Rattle.std.proofs.lemmas.List.Concat.{flat_map-append}
+use Rattle.palm_base.proofs.Pieces.{every_split}
 use Rattle.palm_arena.specs.Cells.{Cell, found_at, both, SameCells}
 use Rattle.palm_arena.proofs.CellLists.{at-append, at-parted}
 
@@ -63,18 +64,10 @@ pub all_both : {X : Type 0} (P Q : X → Type 0) (xs : List X) → AllByRecursio
 all_both P Q [] a b = tt
 all_both P Q (x ∷ xs) a b = ((a.0, b.0), all_both P Q xs a.1 b.1)
 
-pub all_each : {X : Type 0} (P Q : X → Type 0) → ((x : X) → P x → Q x) → (xs : List X) → AllByRecursion P xs → AllByRecursion Q xs
-all_each P Q f [] a = tt
-all_each P Q f (x ∷ xs) a = (f x a.0, all_each P Q f xs a.1)
-
-pub all_front : {X : Type 0} (P : X → Type 0) (xs ys : List X) → AllByRecursion P (xs ++ ys) → AllByRecursion P xs × AllByRecursion P ys
-all_front P [] ys a = (tt, a)
-all_front P (x ∷ xs) ys a = let b = all_front P xs ys a.1 in ((a.0, b.0), b.1)
-
 -- of each item of a flat list
 pub all_flat : {X Y : Type 0} (P : Y → Type 0) (f : X → List Y) (xs : List X) → AllByRecursion P (flat_map f xs) → AllByRecursion (λ x. AllByRecursion P (f x)) xs
 all_flat P f [] a = tt
-all_flat P f (x ∷ xs) a = let b = all_front P (f x) (flat_map f xs) a in (b.0, all_flat P f xs b.1)
+all_flat P f (x ∷ xs) a = let b = every_split P (f x) (flat_map f xs) a in (b.0, all_flat P f xs b.1)
 
 pub flat_all : {X Y : Type 0} (P : Y → Type 0) (f : X → List Y) (xs : List X) → AllByRecursion (λ x. AllByRecursion P (f x)) xs → AllByRecursion P (flat_map f xs)
 flat_all P f [] a = tt

@@ -6,6 +6,7 @@ use Rattle.std.proofs.lemmas.List.{append-nil}
 use mathlib.Core.List.{map-append}
 use Rattle.palm_base.specs.Tree.{Subtree, Tree}
 use Rattle.palm_base.specs.Lawful.{next_low, Sound, InOrder, Root, IsLawful}
+use Rattle.palm_base.proofs.Pieces.{every_split}
 use Rattle.palm_node.specs.declared.id.NodeId.{NodeId}
 use Rattle.palm_node.specs.declared.node.Node.{Node}
 use Rattle.palm_arena.specs.declared.shape.Shape.{Shape}
@@ -15,7 +16,7 @@ use Rattle.palm_arena.specs.Placed.{Body, Placed, PlacedTree, value_in, value_of
 use Rattle.palm_arena.specs.Routes.{separators_of}
 use Rattle.palm_arena.proofs.Keeping.{same_id}
 use Rattle.palm_arena.proofs.Natural.{length-map'}
-use Rattle.palm_arena.proofs.ListParts.{all_front, all_flat}
+use Rattle.palm_arena.proofs.ListParts.{all_flat}
 use Rattle.palm_arena.proofs.CellLists.{owned_front, owned_same, same_swap}
 use Rattle.palm_arena.proofs.PlacedTrees.{Holds, ids_in, placed_at, distinct_owned}
 
@@ -32,7 +33,7 @@ owned_holds nodes cells owned = owned_after nodes [] cells owned
 
 -- And so is each of the first ones.
 pub first_holds : (nodes : NodeId → Option Node) (cells others : List Cell) → Owns nodes (cells ++ others) → Holds nodes cells
-first_holds nodes cells others owned = (all_front (λ cell. nodes cell.0 ≡ Some cell.1) cells others (owned_holds nodes (cells ++ others) owned)).0
+first_holds nodes cells others owned = (every_split (λ cell. nodes cell.0 ≡ Some cell.1) cells others (owned_holds nodes (cells ++ others) owned)).0
 
 -- ---- what it reads as
 

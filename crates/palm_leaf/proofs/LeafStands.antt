@@ -7,6 +7,7 @@ use Rattle.std.proofs.lemmas.List.{append-nil}
 use Rattle.std.proofs.lemmas.List.Sorted.{IsPermutation-refl}
 use Rattle.palm_base.specs.Pass.{Outcome}
 use Rattle.palm_base.specs.declared.row.Row.{Row}
+use Rattle.palm_base.proofs.Every.{every_weaker}
 use Rattle.palm_node.specs.declared.id.NodeId.{NodeId}
 use Rattle.palm_node.specs.declared.id.Piece.{Piece}
 use Rattle.palm_node.specs.declared.node.Node.{Node}
@@ -17,7 +18,7 @@ use Rattle.palm_arena.specs.Placed.{Body, Placed, values, cells_of, cells_under,
 use Rattle.palm_arena.specs.Sites.{Site, raised, sites_at, cells_above, outcome_at}
 use Rattle.palm_arena.specs.Standing.{Result, is_hit, StandsForItself, IsRight, loose_of, change_of, Stands}
 use Rattle.palm_arena.proofs.CellLists.{owned_same, same_append, same_trans, same_sym, same_eq, same_pass}
-use Rattle.palm_arena.proofs.ListParts.{same_parted, same_each, flat_each, flat_flat, flat_map', map_map, map_all, all_map, all_each, all_both}
+use Rattle.palm_arena.proofs.ListParts.{same_parted, same_each, flat_each, flat_flat, flat_map', map_map, map_all, all_map, all_both}
 use Rattle.palm_route.specs.declared.part.Part.{Part}
 use Rattle.palm_leaf.specs.Ends.{LeafEnd, LeavesEnd, pieces_at, leaf_cells, change_at, changes_at, cells_at, Fit}
 use Rattle.palm_leaf.specs.Loads.{LeafLoad}
@@ -213,8 +214,8 @@ leaves_stand d root touched rest old new loads changes loose sites stills hit ow
       results = map (turn_result d) turns;
       kept = [];
       sites = map_map (turn_result d) (λ r. r.site) turns ∙ sym (map_map (λ (t : LeafTurn). t.load) (λ load. load.site) turns) ∙ ap (map (λ load. load.site)) s.loads-are ∙ sites;
-      still = all_map (StandsForItself touched zero) (turn_result d) turns (all_each (IsTurn touched d) (λ t. StandsForItself touched zero (turn_result d t)) (turn_still touched d) turns are);
-      right = all_map (IsRight touched zero d) (turn_result d) turns (all_each (IsTurn touched d) (λ t. IsRight touched zero d (turn_result d t)) (turn_right touched d) turns are);
+      still = all_map (StandsForItself touched zero) (turn_result d) turns (every_weaker (IsTurn touched d) (λ t. StandsForItself touched zero (turn_result d t)) (turn_still touched d) turns are);
+      right = all_map (IsRight touched zero d) (turn_result d) turns (every_weaker (IsTurn touched d) (λ t. IsRight touched zero d (turn_result d t)) (turn_right touched d) turns are);
       changed = ended.changes-are ∙ s.changes-are ∙ turns_changed touched d turns are;
       removed = refl;
       loose = subst (λ rows. IsPermutation (loose ++ []) rows) loosed (IsPermutation-refl (loose ++ []));
@@ -235,7 +236,7 @@ leaves_stand d root touched rest old new loads changes loose sites stills hit ow
         let Fits : LeafTurn → Type 0 = λ t. is_worked t ≡ true → length t.ids ≡ length (out d t.load.site).pieces in
         let Still : LeafTurn → Type 0 = λ t. IsStillLoad d t.load in
         let Hit : LeafTurn → Type 0 = λ t. touched t.load.site.place.0 ≡ is_worked t in
-        all_each (λ (t : LeafTurn). (Fits t × Still t) × Hit t) (IsTurn touched d) (λ t three. record { fits = three.0.0; still = three.0.1; hit = three.1 }) turns
+        every_weaker (λ (t : LeafTurn). (Fits t × Still t) × Hit t) (IsTurn touched d) (λ t three. record { fits = three.0.0; still = three.0.1; hit = three.1 }) turns
         (all_both (λ (t : LeafTurn). Fits t × Still t) Hit turns (all_both Fits Still turns s.fits (of_loads (IsStillLoad d) stills))
         (of_loads (λ load. touched load.site.place.0 ≡ has_parts load.parts) hit))
 

@@ -8,6 +8,7 @@ use Rattle.palm_base.specs.Lawful.{HasFromTo, Sound, InOrder, Root}
 use Rattle.palm_base.specs.declared.bounds.TheConstants.{LEAST_LEAF_ROWS, MOST_LEAF_ROWS}
 use Rattle.palm_base.specs.declared.call.Call.{Call}
 use Rattle.palm_base.specs.Pass.{goes_right}
+use Rattle.palm_base.proofs.Every.{every_weaker}
 use Rattle.palm_node.specs.declared.id.NodeId.{NodeId}
 use Rattle.palm_node.specs.declared.node.Node.{Node}
 use Rattle.palm_node.specs.declared.node.Node.TheVariants.{Leaf}
@@ -18,7 +19,7 @@ use Rattle.palm_arena.specs.Sites.{Site, raised, sites_at, sites_below, sites_of
 use Rattle.palm_arena.specs.Passes.{Pass, is_among, leaf_sites}
 use Rattle.palm_arena.proofs.CellLists.{owned_front, owned_same, same_append, same_trans, same_eq, same_pass}
 use Rattle.palm_arena.proofs.LevelCells.{level_cells}
-use Rattle.palm_arena.proofs.ListParts.{flat_flat, all_each, all_both, flat_all}
+use Rattle.palm_arena.proofs.ListParts.{flat_flat, all_both, flat_all}
 use Rattle.palm_route.specs.declared.part.Part.{Part}
 use Rattle.palm_leaf.specs.Loads.{LeafLoad, load_group}
 
@@ -138,7 +139,7 @@ all_hit : (loads : List LeafLoad) → Distinct loads → AllByRecursion (IsHit (
 all_hit [] all = tt
 all_hit (load ∷ loads) all = (
   hit_own load loads (not_among load.site.place.0 loads all.0),
-  all_each (λ later. (same_place later.site.place.0 load.site.place.0 ≡ false) × IsHit (touched_ids loads) later) (IsHit (touched_ids (load ∷ loads)))
+  every_weaker (λ later. (same_place later.site.place.0 load.site.place.0 ≡ false) × IsHit (touched_ids loads) later) (IsHit (touched_ids (load ∷ loads)))
       (λ later both. hit_later load later loads (same_swapped later.site.place.0 load.site.place.0 both.0) both.1) loads
       (all_both (λ later. same_place later.site.place.0 load.site.place.0 ≡ false) (IsHit (touched_ids loads)) loads all.0 (all_hit loads all.1)),
 )
@@ -164,10 +165,10 @@ sound_full : (n : ℕ) (site : Site n) → SoundSite n site → AllByRecursion I
 sound_full zero site sound = (sound.2.0, tt)
 sound_full (suc n) site sound =
     flat_all IsFull (leaf_sites n) (sites_below n site)
-    (all_each (SoundSite n) (λ s. AllByRecursion IsFull (leaf_sites n s)) (λ s one. sound_full n s one) (sites_below n site) (children_sound n sound.0 sound.1 site.path site.place.0 0 site.place.1 site.edits sound.2.2))
+    (every_weaker (SoundSite n) (λ s. AllByRecursion IsFull (leaf_sites n s)) (λ s one. sound_full n s one) (sites_below n site) (children_sound n sound.0 sound.1 site.path site.place.0 0 site.place.1 site.edits sound.2.2))
 
 -- The leaves of a lawful tree with an inner root.
 pub root_full : (n high : ℕ) (site : Site (suc n)) → Root (suc n) high (value_in (suc n) site.place.1) → AllByRecursion IsFull (leaf_sites (suc n) site)
 root_full n high site root =
     flat_all IsFull (leaf_sites n) (sites_below n site)
-    (all_each (SoundSite n) (λ s. AllByRecursion IsFull (leaf_sites n s)) (λ s one. sound_full n s one) (sites_below n site) (children_sound n 0 high site.path site.place.0 0 site.place.1 site.edits root.2))
+    (every_weaker (SoundSite n) (λ s. AllByRecursion IsFull (leaf_sites n s)) (λ s one. sound_full n s one) (sites_below n site) (children_sound n 0 high site.path site.place.0 0 site.place.1 site.edits root.2))

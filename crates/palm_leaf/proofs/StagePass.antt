@@ -11,6 +11,7 @@ use Rattle.palm_base.specs.declared.bounds.TheConstants.{LEAST_LEAF_ROWS, MOST_L
 use Rattle.palm_base.specs.declared.row.Row.{Row}
 use Rattle.palm_base.proofs.CutParts.{large}
 use Rattle.palm_base.proofs.Cuts.{few_are_one_piece}
+use Rattle.palm_base.proofs.Every.{every_weaker}
 use Rattle.palm_node.specs.declared.id.NodeId.{NodeId}
 use Rattle.palm_node.specs.declared.node.Node.{Node}
 use Rattle.palm_node.specs.declared.node.Node.TheVariants.{Leaf}
@@ -21,7 +22,7 @@ use Rattle.palm_arena.specs.Sites.{Site, raised, sites_at, cells_above, outcome_
 use Rattle.palm_arena.specs.Passes.{Pass, is_among, root_site, leaf_sites, Begins, StandsAt}
 use Rattle.palm_arena.proofs.CellLists.{owned_same, same_append, same_trans, same_eq}
 use Rattle.palm_arena.proofs.OwnedTrees.{first_holds}
-use Rattle.palm_arena.proofs.ListParts.{same_parted, map_all, all_each, all_both}
+use Rattle.palm_arena.proofs.ListParts.{same_parted, map_all, all_both}
 use Rattle.palm_route.specs.Edits.{edits_of}
 use Rattle.palm_route.specs.declared.part.Part.{Part}
 use Rattle.palm_route.specs.declared.part.Group.{Group}
@@ -204,7 +205,7 @@ pass_facts d place p nodes shape groups parts begins routed =
         let full = lawful_full n lawful.0 (root_site (pass_at (suc d) place p)) some lawful.1 in
         let fulls = map_all IsFull (λ (load : LeafLoad). load.site) l.loads (subst (AllByRecursion IsFull) (sym l.sites-are) full) in (
           subst (λ least. AllByRecursion (IsCut least (suc d)) l.loads) (sym (least_below shape n begins.levels some)) (all_below_cut d l.loads),
-          all_each (λ (load : LeafLoad). IsLoad load × IsFull load.site) (IsStillLoad (suc d)) (λ load both. full_still d load both.0 both.1) l.loads (all_both IsLoad (λ (load : LeafLoad). IsFull load.site) l.loads l.each fulls),
+          every_weaker (λ (load : LeafLoad). IsLoad load × IsFull load.site) (IsStillLoad (suc d)) (λ load both. full_still d load both.0 both.1) l.loads (all_both IsLoad (λ (load : LeafLoad). IsFull load.site) l.loads l.each fulls),
         )
 
 -- ---- what the stage takes and gives

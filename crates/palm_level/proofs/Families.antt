@@ -11,6 +11,7 @@ use Rattle.palm_base.specs.Lawful.{next_low, HasFromTo}
 use Rattle.palm_base.specs.declared.bounds.TheConstants.{LEAST_CHILDREN, MOST_CHILDREN}
 use Rattle.palm_base.proofs.Cuts.{few_are_one_piece}
 use Rattle.palm_base.proofs.CutParts.{large}
+use Rattle.palm_base.proofs.Every.{every_weaker}
 use Rattle.palm_node.specs.declared.id.NodeId.{NodeId}
 use Rattle.palm_node.specs.declared.node.Node.{Node}
 use Rattle.palm_node.specs.declared.node.Node.TheVariants.{Inner}
@@ -23,7 +24,7 @@ use Rattle.palm_arena.specs.Standing.{is_touched, Result, is_hit, StandsForItsel
 use Rattle.palm_arena.proofs.SitePasses.{site_pass, outcome_below}
 use Rattle.palm_arena.proofs.LevelCells.{sites_children}
 use Rattle.palm_arena.proofs.CellLists.{owned_same, same_trans, same_sym, same_eq, same_front, same_back}
-use Rattle.palm_arena.proofs.ListParts.{same_parted, same_each, perm_more, flat_each, flat_flat, map_map, flat_map', all_map, all_each, all_flat}
+use Rattle.palm_arena.proofs.ListParts.{same_parted, same_each, perm_more, flat_each, flat_flat, map_map, flat_map', all_map, all_flat}
 use Rattle.palm_level.proofs.Parent.{parent_right, parent_loose}
 use Rattle.palm_arena.proofs.NamedNodes.{nodes_cells}
 use Rattle.palm_level.specs.Families.{Family, IsPassed, left_of, pieces_under, gone_of, placed_left, bodies_left, is_worked, pieces_after, kept_after, result_after, nodes_before, nodes_after, IsFull, IsFamily, HasIds, Worked}
@@ -263,8 +264,8 @@ level_stands d l root W rest m m' seen st fs w =
       results = map (result_after W l) fs;
       kept = st.kept ++ flat_map (kept_after W l) fs;
       sites = map_map (result_after W l) (λ r. r.site) fs ∙ w.parents;
-      still = all_map (StandsForItself W (suc l)) (result_after W l) fs (all_each (Known W l) (λ f. StandsForItself W (suc l) (result_after W l f)) (λ f q. still_after W l f) fs k);
-      right = all_map (IsPassed (suc l)) (result_after W l) fs (all_each (Known W l) (λ f. IsPassed (suc l) (result_after W l f)) (right_after W l) fs k);
+      still = all_map (StandsForItself W (suc l)) (result_after W l) fs (every_weaker (Known W l) (λ f. StandsForItself W (suc l) (result_after W l f)) (λ f q. still_after W l f) fs k);
+      right = all_map (IsPassed (suc l)) (result_after W l) fs (every_weaker (Known W l) (λ f. IsPassed (suc l) (result_after W l f)) (right_after W l) fs k);
       changed = refl;
       removed = ap (λ rs. rs ++ map removed_of (flat_map (kept_after W l) fs)) st.removed ∙ sym (map-append removed_of st.kept (flat_map (kept_after W l) fs));
       loose = loose_after d l root W rest m m' seen st fs w k;

@@ -8,6 +8,7 @@ use Rattle.std.proofs.lemmas.List.Sums.{sum_by-append, sum_by-cons}
 use mathlib.Core.List.{map-append}
 use mathlib.Core.Logic.{dite}
 use native.Mathlib.Decide.{ℕ_discrete}
+use Rattle.palm_base.proofs.Pieces.{every_split}
 use Rattle.palm_node.specs.declared.id.NodeId.{NodeId}
 use Rattle.palm_node.specs.declared.node.Node.{Node}
 use Rattle.palm_node.specs.declared.node.Node.TheVariants.{Inner}
@@ -19,7 +20,6 @@ use Rattle.palm_arena.specs.Cells.{Turns}
 use Rattle.palm_arena.proofs.Keeping.{same_id}
 use Rattle.palm_arena.proofs.Standing.{put_stands, others_stay}
 use Rattle.palm_arena.proofs.Turning.{lend_turns}
-use Rattle.palm_arena.proofs.ListParts.{all_front}
 use Rattle.palm_level.specs.Groups.{Touched}
 use Rattle.palm_level.specs.Works.{IsReady, CanSplice}
 use Rattle.palm_level.specs.Plans.{CanWork, IsRoomAt, IsPlanned, planned_key}
@@ -69,7 +69,7 @@ last_apart : (ids : List NodeId) (id : NodeId) → Distinct (ids ++ id ∷ []) �
 last_apart [] id distinct = (tt, tt)
 last_apart (x ∷ xs) id distinct =
     let rest = last_apart xs id distinct.1 in
-    let parts = all_front (λ other. x ≢ other) xs (id ∷ []) distinct.0 in
+    let parts = every_split (λ other. x ≢ other) xs (id ∷ []) distinct.0 in
     ((parts.0, rest.0), (parts.1.0, rest.1))
 
 still_yet : (old new : List Place) (id : NodeId) (ps : List Planned) → AllByRecursion (λ other. other ≢ id) (map planned_id ps) → AllByRecursion (StandsYet old new) ps → AllByRecursion (StandsYet old (with_place new id Lent)) ps
@@ -87,8 +87,8 @@ pub record Last (old new : ArenaState) (all left : List Planned) (tasks : List (
 
 pub last_of : (old new : ArenaState) (all left popped : List Planned) (tasks : List (Option Task)) (next : Planned) → left ≡ popped ++ next ∷ [] → LentSoFar old new all left tasks → Last old new all popped tasks next
 last_of old new all left popped tasks next is far =
-    let planned = all_front (IsPlanned (map_of old.places)) popped (next ∷ []) (subst (AllByRecursion (IsPlanned (map_of old.places))) is far.planned) in
-    let yet = all_front (StandsYet old.places new.places) popped (next ∷ []) (subst (AllByRecursion (StandsYet old.places new.places)) is far.yet) in
+    let planned = every_split (IsPlanned (map_of old.places)) popped (next ∷ []) (subst (AllByRecursion (IsPlanned (map_of old.places))) is far.planned) in
+    let yet = every_split (StandsYet old.places new.places) popped (next ∷ []) (subst (AllByRecursion (StandsYet old.places new.places)) is far.yet) in
     let apart = last_apart (map planned_id popped) next.parent.node (subst Distinct (ap (map planned_id) is ∙ map-append planned_id popped (next ∷ [])) far.distinct) in
     record { planned = planned.1.0; others = planned.0; yet = yet.1.0; later-yet = yet.0; distinct = apart.0; apart = apart.1 }
 

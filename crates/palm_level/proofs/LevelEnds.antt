@@ -23,10 +23,11 @@ use Rattle.palm_arena.specs.Standing.{Result, is_hit, StandsForItself, change_of
 use Rattle.palm_arena.proofs.Natural.{inside, small-map}
 use Rattle.palm_arena.proofs.SitePasses.{site_pass}
 use Rattle.palm_arena.proofs.CellLists.{same_trans, same_sym, same_eq}
-use Rattle.palm_arena.proofs.ListParts.{same_parted, same_each, flat_map', all_each}
+use Rattle.palm_arena.proofs.ListParts.{same_parted, same_each, flat_map'}
 use Rattle.palm_level.specs.Families.{Family, IsPassed, placed_left, is_worked}
 use Rattle.palm_base.specs.Pass.{leaves_of}
 use Rattle.palm_base.proofs.SoundNodes.{low_of, first_has_low}
+use Rattle.palm_base.proofs.Every.{every_weaker}
 use Rattle.palm_base.specs.Table.{row_key, after_all}
 use Rattle.palm_base.specs.declared.bounds.TheConstants.{LEAST_LEAF_ROWS, MOST_LEAF_ROWS}
 use Rattle.palm_arena.proofs.Keeping.{same_id}
@@ -245,6 +246,6 @@ level_worked d l root W rest old new changes before after st fs parents children
     let loose : after.loose ≡ changes.loose = worked.loose ∙ ap (λ (c : Changes). c.loose) start in
     let removed : after.removed ≡ changes.removed ++ flat_map (group_removed (suc (suc l))) (map settled worked.groups) =
     worked.removed ∙ ap (λ (c : Changes). c.removed ++ flat_map (removed_for (suc (suc l))) worked.groups) start ∙ ap (λ rs. changes.removed ++ rs) (all_removed W l (suc (suc l)) worked.groups all.settle) in
-    run_stands (suc d) l root W rest old new changes after st fs all.families (map settled worked.groups) parents children (all_each (Known W l old) (Ready W l) (λ f k. ready_of W l old f k) fs s.known) all.aligned
+    run_stands (suc d) l root W rest old new changes after st fs all.families (map settled worked.groups) parents children (every_weaker (Known W l old) (Ready W l) (λ f k. ready_of W l old f k) fs s.known) all.aligned
     (all_turns W l old new worked.groups all.settle worked.turns)
     (λ i. record { nodes = nodes i; loose = loose i; removed = removed i })

@@ -19,9 +19,10 @@ use Rattle.palm_arena.specs.Sites.{Site, sites_of_children, sites_below, raised,
 use Rattle.palm_arena.specs.Standing.{Result, is_hit, StandsForItself, change_of, kept_cells, Stands}
 use Rattle.palm_arena.proofs.Natural.{length-map'}
 use Rattle.palm_arena.proofs.CellLists.{owned_same, owned_front, same_swap}
-use Rattle.palm_arena.proofs.ListParts.{map_map, map_all, all_each, all_flat, flat_all}
+use Rattle.palm_arena.proofs.ListParts.{map_map, map_all, all_flat, flat_all}
 use Rattle.palm_level.specs.Families.{Family, IsPassed, is_worked, IsFull, IsFamily}
 use Rattle.palm_base.proofs.Batches.{highest, adds_below, root_wider}
+use Rattle.palm_base.proofs.Every.{every_weaker}
 use Rattle.palm_level.specs.Splices.{PlacesRise, last_step, path_above}
 use Rattle.palm_level.specs.Runs.{runs, parent_of}
 use Rattle.palm_level.specs.Groups.{Touched, touched_of, low_in, low_at}
@@ -120,7 +121,7 @@ first_zeros zero l high root r =
     value_first [] = refl
     value_first (c ∷ cs) = refl
 first_zeros (suc d) l high root r =
-    all_each (SoundSite (suc l)) (FirstIsZero l) (λ s sound. let full = sound_full l s sound in let some = full.0.0 in (omega (arith, some), full.1)) (sites_at (suc d) (suc l) root)
+    every_weaker (SoundSite (suc l)) (FirstIsZero l) (λ s sound. let full = sound_full l s sound in let some = full.0.0 in (omega (arith, some), full.1)) (sites_at (suc d) (suc l) root)
     (sound_parents d (suc l) (high + highest root.edits) root (root_wider (raised (suc (suc l)) d) high (high + highest root.edits) (value_in (raised (suc (suc l)) d) root.place.1) r (omega arith)) (adds_below (high + highest root.edits) root.edits (omega arith)))
 
 pub setting : (d l high : ℕ) (root : Site (raised (suc (suc l)) d)) (W : NodeId → Bool) (rest : List Cell) (nodes : NodeId → Option Node) (changes : Changes) (st : Stands (suc (suc d)) l root W rest nodes changes)
@@ -210,7 +211,7 @@ can_work W l nodes f k = record {
   node = inner_of f.parent.place.1;
   held = k.held;
   can-splice = record {
-    paths = all_each (λ (c : Change). (path_above c.path ≡ f.parent.path) × (0 < length c.path)) (λ (c : Change). 0 < length c.path) (λ c both. both.1) (family_changes W l f) (family_paths W l f k.family);
+    paths = every_weaker (λ (c : Change). (path_above c.path ≡ f.parent.path) × (0 < length c.path)) (λ (c : Change). 0 < length c.path) (λ c both. both.1) (family_changes W l f) (family_paths W l f k.family);
     places = subst (λ n. PlacesRise 0 n (family_changes W l f)) (sym (length-map' (λ (c : ℕ × Placed l). c.1.0) f.parent.place.1)) (family_places W l f k.family);
     rising = subst (λ ps. Rise (later_lows ps)) (sym (family_left W l f k.family (known_full W l nodes f k).1 k.still)) (left_rises l f k.sound k.family k.passed);
   };
@@ -231,7 +232,7 @@ family_fits W l nodes f k worked =
 -- ---- all families
 
 pub worked_runs : (l : ℕ) (W : NodeId → Bool) (nodes : NodeId → Option Node) (changes : Changes) (fs : List (Family l)) → Setting l W nodes changes fs → runs changes.nodes ≡ map (family_changes W l) (filter (is_worked W l) fs)
-worked_runs l W nodes changes fs s = ap runs s.changed ∙ family_runs W l fs (all_each (Known W l nodes) (IsFamily l) (λ f k. k.family) fs s.known) s.distinct
+worked_runs l W nodes changes fs s = ap runs s.changed ∙ family_runs W l fs (every_weaker (Known W l nodes) (IsFamily l) (λ f k. k.family) fs s.known) s.distinct
 
 all_fit : (W : NodeId → Bool) (l : ℕ) (nodes : NodeId → Option Node) (fs : List (Family l)) → AllByRecursion (Known W l nodes) fs → AllByRecursion (Fits nodes) (map (family_changes W l) (filter (is_worked W l) fs))
 all_fit W l nodes [] known = tt
@@ -248,8 +249,8 @@ pub paths_lead : (l : ℕ) (W : NodeId → Bool) (nodes : NodeId → Option Node
 paths_lead l W nodes changes fs s =
     subst (AllByRecursion (λ (c : Change). 0 < length c.path)) (sym s.changed)
     (flat_all (λ (c : Change). 0 < length c.path) (family_changes W l) fs
-    (all_each (Known W l nodes) (λ f. AllByRecursion (λ (c : Change). 0 < length c.path) (family_changes W l f))
-    (λ f k. all_each (λ (c : Change). (path_above c.path ≡ f.parent.path) × (0 < length c.path)) (λ (c : Change). 0 < length c.path) (λ c both. both.1) (family_changes W l f) (family_paths W l f k.family)) fs s.known))
+    (every_weaker (Known W l nodes) (λ f. AllByRecursion (λ (c : Change). 0 < length c.path) (family_changes W l f))
+    (λ f k. every_weaker (λ (c : Change). (path_above c.path ≡ f.parent.path) × (0 < length c.path)) (λ (c : Change). 0 < length c.path) (λ c both. both.1) (family_changes W l f) (family_paths W l f k.family)) fs s.known))
 
 -- The parents' ids, each once.
 pub ids_once : (l : ℕ) (W : NodeId → Bool) (nodes : NodeId → Option Node) (changes : Changes) (fs : List (Family l)) → Setting l W nodes changes fs

@@ -8,12 +8,13 @@ use Rattle.palm_base.specs.declared.call.Call.{Call}
 use Rattle.palm_base.proofs.TableSplits.{Adds}
 use Rattle.palm_base.proofs.SoundNodes.{low_of}
 use Rattle.palm_base.proofs.Passes.{left_edits, right_edits, below_holds, pass_holds}
+use Rattle.palm_base.proofs.Every.{every_weaker}
 use Rattle.palm_node.specs.declared.id.NodeId.{NodeId}
 use Rattle.palm_node.specs.declared.id.Piece.{Piece}
 use Rattle.palm_arena.specs.Placed.{Placed, value_in, values, bare}
 use Rattle.palm_arena.specs.Sites.{Site, sites_of_children, sites_below, raised, sites_at}
 use Rattle.palm_arena.proofs.Natural.{length-map'}
-use Rattle.palm_arena.proofs.ListParts.{flat_all, all_each}
+use Rattle.palm_arena.proofs.ListParts.{flat_all}
 use Rattle.palm_node.specs.InnerNode.{Rise, later_lows}
 use Rattle.palm_level.specs.Families.{Family, IsFull, IsFamily, IsPassed, placed_left}
 use Rattle.palm_level.proofs.Parent.{below_results, joined_values}
@@ -47,7 +48,7 @@ sites_sound : (d l : ℕ) (root : Site (raised (suc l) d)) → ChildrenAt d l ro
 sites_sound zero l root k = flat_all (SoundSite l) (sites_below l) (root ∷ []) (below_sound l root k, tt)
 sites_sound (suc d) l root k =
     flat_all (SoundSite l) (sites_below l) (sites_at (suc d) (suc l) root)
-    (all_each (SoundSite (suc l)) (λ s. AllByRecursion (SoundSite l) (sites_below l s)) (λ s q. below_sound l s (q.0, q.1, q.2.2, q.3)) (sites_at (suc d) (suc l) root) (sites_sound d (suc l) root k))
+    (every_weaker (SoundSite (suc l)) (λ s. AllByRecursion (SoundSite l) (sites_below l s)) (λ s q. below_sound l s (q.0, q.1, q.2.2, q.3)) (sites_at (suc d) (suc l) root) (sites_sound d (suc l) root k))
 
 root_children : (d l high : ℕ) (root : Site (raised (suc l) d)) → Root (raised (suc l) d) high (value_in (raised (suc l) d) root.place.1)
     → AllByRecursion (Adds (IsIn 0 high)) root.edits → ChildrenAt d l root

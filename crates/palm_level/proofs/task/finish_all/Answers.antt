@@ -1,6 +1,6 @@
 use Rattle.std.proofs.Common.{arith, ap, ◌∙◌, subst, ◌++◌, ◌∷◌, [], Option, Some}
 use Rattle.std.specs.List.{AllByRecursion}
-use Rattle.palm_arena.proofs.ListParts.{all_front}
+use Rattle.palm_base.proofs.Pieces.{every_split}
 use Rattle.palm_level.specs.Tasks.{IsTask}
 use Rattle.palm_level.specs.declared.task.Task.{Task}
 use Rattle.palm_level.proofs.Finishing.{one_finished, lent_popped, task_lent, later_popped}
@@ -21,7 +21,7 @@ loop-item-preserved g c =
       far = one_finished c.args.level c.args.arena.now c.loop-item.arena c.finish.new.arena c.args.tasks.now.items c.loop-item.tasks.items c.pop.new.self.items c.in-Some-item.task c.args.changes.now c.loop-item.changes c.finish.new.changes
           c.loop-item.invariant.far at c.in_ok-finish.ensures.ok;
       lent = lent_popped c.loop-item.arena.places c.finish.new.arena.places c.loop-item.tasks.items c.pop.new.self.items (Some c.in-Some-item.task) at c.loop-item.invariant.lent c.finish.ensures.home;
-      there = (all_front IsTask c.pop.new.self.items (Some c.in-Some-item.task ∷ []) (subst (AllByRecursion IsTask) at c.loop-item.invariant.there)).0;
+      there = (every_split IsTask c.pop.new.self.items (Some c.in-Some-item.task ∷ []) (subst (AllByRecursion IsTask) at c.loop-item.invariant.there)).0;
       begun = c.finish.ensures.begun ∙ c.loop-item.invariant.begun;
       ticks = omega (arith, sum, ticks, c.finish.ensures.ticks);
       moved = omega (arith, moved, c.finish.ensures.moved);
