@@ -43,11 +43,12 @@ record ChildrenAt (nodes : NodeId → Option Node) (n : ℕ) (lows : List ℕ) (
   held : Holds nodes (cells_under n bodies)
   under : ids_in (cells_under n bodies) ≡ flat_map (ids_under nodes n) ids
 
-read_first : {T : Type 0} (low : ℕ) (first : Option T) (rest : Option (List (ℕ × T))) (children : List (ℕ × T)) → with_child low first rest ≡ Some children
+-- Children that read: the first does, and so do the others.
+pub first_child : {T : Type 0} (low : ℕ) (first : Option T) (rest : Option (List (ℕ × T))) (children : List (ℕ × T)) → with_child low first rest ≡ Some children
     → (child : T) × (later : List (ℕ × T)) × (first ≡ Some child) × (rest ≡ Some later) × (children ≡ (low, child) ∷ later)
-read_first low None rest children e = absurd cc
-read_first low (Some child) None children e = absurd cc
-read_first low (Some child) (Some later) children e = (child, later, refl, refl, cc)
+first_child low None rest children e = absurd cc
+first_child low (Some child) None children e = absurd cc
+first_child low (Some child) (Some later) children e = (child, later, refl, refl, cc)
 
 children_placed : (nodes : NodeId → Option Node) (n : ℕ) → ((id : NodeId) (value : Subtree n) → reads nodes n id ≡ Some value → PlacedAt nodes n id value)
     → (lows : List ℕ) (ids : List NodeId) (children : List (ℕ × Subtree n)) → children_at (reads nodes n) lows ids ≡ Some children → ChildrenAt nodes n lows ids children
@@ -56,7 +57,7 @@ children_placed nodes n ih [] [] (child ∷ children) e = absurd cc
 children_placed nodes n ih (low ∷ lows) [] children e = absurd cc
 children_placed nodes n ih [] (id ∷ ids) children e = absurd cc
 children_placed nodes n ih (low ∷ lows) (id ∷ ids) children e =
-    let split = read_first low (reads nodes n id) (children_at (reads nodes n) lows ids) children e in
+    let split = first_child low (reads nodes n id) (children_at (reads nodes n) lows ids) children e in
     let first = ih id split.0 split.2 in
     let rest = children_placed nodes n ih lows ids split.1 split.3 in
     record {

@@ -9,12 +9,13 @@ use Rattle.palm_node.specs.declared.id.NodeId.{NodeId}
 use Rattle.palm_node.specs.declared.node.Node.{Node}
 use Rattle.palm_node.specs.declared.node.Node.TheVariants.{Leaf, Inner}
 use Rattle.palm_arena.specs.ArenaState.{node_in, with_place, IsVacant}
-use Rattle.palm_arena.specs.Reads.{map_of, with_child, children_at, leaf_in, inner_in, children_in, reads, ids_under}
+use Rattle.palm_arena.specs.Reads.{map_of, children_at, leaf_in, inner_in, children_in, reads, ids_under}
 use Rattle.palm_arena.specs.declared.place.Place.{Place}
 use Rattle.palm_arena.specs.declared.place.Place.TheVariants.{Holds}
 use Rattle.palm_arena.proofs.Keeping.{same_id}
 use Rattle.palm_arena.proofs.Standing.{others_stay}
 use Rattle.palm_arena.proofs.Readings.{leaf_reads}
+use Rattle.palm_arena.proofs.PlacedTrees.{first_child}
 
 -- A map has every node that another has, at its id.
 abbrev pub Extends : (NodeId → Option Node) → (NodeId → Option Node) → Type 0
@@ -29,14 +30,6 @@ put_extends places new node vacant id held at = dite (ℕ_discrete id.place new.
     (λ apart. ap node_in (others_stay places new id (Holds node) (λ e. apart (ap (λ (k : NodeId). k.place) e))) ∙ at)
 
 -- ---- what reads
-
--- Children that read: the first does, and so do the others.
-pub first_child : {T : Type 0} (low : ℕ) (first : Option T) (rest : Option (List (ℕ × T))) (children : List (ℕ × T))
-    → with_child low first rest ≡ Some children
-    → (child : T) × (later : List (ℕ × T)) × (first ≡ Some child) × (rest ≡ Some later) × (children ≡ (low, child) ∷ later)
-first_child low None rest children e = absurd cc
-first_child low (Some child) None children e = absurd cc
-first_child low (Some child) (Some later) children e = (child, later, refl, refl, cc)
 
 -- An inner node that reads has children that do.
 pub inner_node : (nodes : NodeId → Option Node) (n : ℕ) (id : NodeId) (children : Subtree (suc n)) → reads nodes (suc n) id ≡ Some children

@@ -17,7 +17,8 @@ use Rattle.palm_arena.specs.declared.place.Place.{Place}
 use Rattle.palm_arena.specs.declared.place.Place.TheVariants.{Holds}
 use Rattle.palm_arena.specs.declared.shape.Shape.{Shape}
 use Rattle.palm_arena.proofs.Standing.{put_stands}
-use Rattle.palm_tree.proofs.NewNodes.{put_extends, first_child, children_kept, reads_kept, ids_kept}
+use Rattle.palm_arena.proofs.PlacedTrees.{first_child}
+use Rattle.palm_tree.proofs.NewNodes.{put_extends, children_kept, reads_kept, ids_kept}
 use Rattle.palm_tree.specs.Levels.{piece_lows, piece_ids, ReadAs, ids_below, MeetsLive, IsLevel}
 use Rattle.palm_tree.proofs.IdCounts.{put_meets, distinct_ids, met_among, live_most, live_some}
 
