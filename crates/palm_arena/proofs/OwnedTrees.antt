@@ -153,7 +153,7 @@ once_distinct (cell ∷ cells) once = (
 
 -- ---- each live id is met
 
-contains_later : (x id : NodeId) (xs : List NodeId) → Contains xs id → Contains (x ∷ xs) id
+pub contains_later : (x id : NodeId) (xs : List NodeId) → Contains xs id → Contains (x ∷ xs) id
 contains_later x id xs (i, inside, at) = (suc i, omega arith, at)
 
 found_contained : (cells : List Cell) (id : NodeId) → found_at id cells ≢ Nothing → Contains (ids_in cells) id

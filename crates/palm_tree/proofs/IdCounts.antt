@@ -13,6 +13,7 @@ use Rattle.palm_arena.specs.declared.place.Place.TheVariants.{Holds}
 use Rattle.palm_arena.proofs.Keeping.{same_id}
 use Rattle.palm_tree.specs.Levels.{times, live, MeetsLive}
 use Rattle.palm_arena.proofs.Standing.{put_stands, others_stay}
+use Rattle.palm_arena.proofs.OwnedTrees.{contains_later}
 
 -- 1 where the ids are of one place
 once : NodeId → NodeId → ℕ
@@ -76,9 +77,6 @@ distinct_ids (x ∷ xs) most =
       none_met x xs (omega (arith, own, first, one)),
       distinct_ids xs (λ id. omega (arith, most id, times_cons id x xs)),
     )
-
-contains_later : (x id : NodeId) (xs : List NodeId) → Contains xs id → Contains (x ∷ xs) id
-contains_later x id xs (i, inside, at) = (suc i, omega arith, at)
 
 -- An id that is met is among them.
 pub met_among : (id : NodeId) (ids : List NodeId) → 1 ≤ times id ids → Contains ids id
