@@ -43,7 +43,7 @@ nodes-inside f low children =
 pub nodes_values : (n low : ℕ) (children : List (ℕ × Placed n)) → map {B = ℕ × Subtree (suc n)} (inside (value_in (suc n))) (nodes_over low children) ≡ nodes_over low (values n children)
 nodes_values n low children = nodes-inside (λ (p : Placed n). value_in n p.1) low children
 
-over_cells : (n : ℕ) (children : List (ℕ × Placed n)) → cells_under n (node_over children) ≡ cells_under n children
+pub over_cells : (n : ℕ) (children : List (ℕ × Placed n)) → cells_under n (node_over children) ≡ cells_under n children
 over_cells n [] = refl
 over_cells n (child ∷ children) = refl
 

@@ -26,7 +26,7 @@ use Rattle.palm_arena.proofs.LevelCells.{sites_children}
 use Rattle.palm_arena.proofs.CellLists.{owned_same, same_trans, same_sym, same_eq, same_front, same_back}
 use Rattle.palm_arena.proofs.ListParts.{same_parted, same_each, perm_more, flat_each, flat_flat, map_map, flat_map', all_map, all_flat}
 use Rattle.palm_level.proofs.Parent.{parent_right, parent_loose}
-use Rattle.palm_arena.proofs.NamedNodes.{nodes_cells}
+use Rattle.palm_arena.proofs.NamedNodes.{nodes_cells, over_cells}
 use Rattle.palm_level.specs.Families.{Family, IsPassed, left_of, pieces_under, gone_of, placed_left, bodies_left, is_worked, pieces_after, kept_after, result_after, nodes_before, nodes_after, IsFull, IsFamily, HasIds, Worked}
 
 -- Where no child is touched, what stands for the children is the children.
@@ -116,10 +116,6 @@ over_seps (child ∷ children) = refl
 over_ids : {B : Type 0} (children : List (ℕ × (NodeId × B))) → ids_of_children (node_over children) ≡ ids_of_children children
 over_ids [] = refl
 over_ids (child ∷ children) = refl
-
-over_cells : (l : ℕ) (children : List (ℕ × Placed l)) → cells_under l (node_over children) ≡ cells_under l children
-over_cells l [] = refl
-over_cells l (child ∷ children) = refl
 
 parts_after : (W : NodeId → Bool) (l : ℕ) (f : Family l) → Known W l f → SameCells (nodes_after W l f ++ stays W l f) (cells_under (suc l) (pieces_after W l f) ++ flat_map kept_cells (kept_after W l f))
 unfolding stays
