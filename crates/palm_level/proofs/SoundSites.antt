@@ -15,6 +15,7 @@ use Rattle.palm_arena.specs.Placed.{Placed, value_in, values, bare}
 use Rattle.palm_arena.specs.Sites.{Site, sites_of_children, sites_below, raised, sites_at}
 use Rattle.palm_arena.proofs.Natural.{length-map'}
 use Rattle.palm_arena.proofs.ListParts.{flat_all}
+use Rattle.palm_arena.proofs.OwnedTrees.{first_value}
 use Rattle.palm_node.specs.InnerNode.{Rise, later_lows}
 use Rattle.palm_level.specs.Families.{Family, IsFull, IsFamily, IsPassed, placed_left}
 use Rattle.palm_level.proofs.Parent.{below_results, joined_values}
@@ -59,10 +60,6 @@ root_children (suc d) l high root r adds = root_children d (suc l) high root r a
 pub sound_parents : (d l high : ℕ) (root : Site (raised (suc l) d)) → Root (raised (suc l) d) high (value_in (raised (suc l) d) root.place.1)
     → AllByRecursion (Adds (IsIn 0 high)) root.edits → AllByRecursion (SoundSite l) (sites_at (suc d) l root)
 sound_parents d l high root r adds = sites_sound d l root (root_children d l high root r adds)
-
-first_value : (l : ℕ) (children : List (ℕ × Placed l)) → next_low (λ child. child.0) 0 (values l children) ≡ next_low (λ child. child.0) 0 children
-first_value l [] = refl
-first_value l (k ∷ ks) = refl
 
 -- So it has as many children as it may.
 pub sound_full : (l : ℕ) (s : Site (suc l)) → SoundSite (suc l) s → IsFull l s
