@@ -29,7 +29,7 @@ use Rattle.palm_arena.specs.Passes.{Pass, Begins, StandsAt, IsRepaired, outcome_
 use Rattle.palm_arena.specs.Placed.{PlacedTree, cells_of, value_of}
 use Rattle.palm_arena.specs.Reads.{HasTree, ReadsAs}
 use Rattle.palm_arena.specs.Standing.{kept_cells}
-use Rattle.palm_arena.proofs.CellLists.{owned_same, same_append, same_eq, same_swap, same_trans}
+use Rattle.palm_arena.proofs.CellLists.{owned_same, same_append, same_eq, same_swap, same_trans, same_pass}
 use Rattle.palm_arena.proofs.OwnedTrees.{owned_reads, owned_whole, whole_owns}
 use Rattle.palm_route.specs.Edits.{EditsPrefix, edits_of}
 use Rattle.palm_route.specs.Groups.{groups_of, group_at}
@@ -126,19 +126,13 @@ levels_done tree batch nodes first second shape groups leaves changes over are s
 
 -- ---- how it ends
 
-swap_first : (a b rest : List Cell) → SameCells (a ++ (b ++ rest)) (b ++ (a ++ rest))
-swap_first a b rest =
-    same_trans (a ++ (b ++ rest)) ((b ++ a) ++ rest) (b ++ (a ++ rest))
-    (same_trans (a ++ (b ++ rest)) ((a ++ b) ++ rest) ((b ++ a) ++ rest) (same_eq (a ++ (b ++ rest)) ((a ++ b) ++ rest) (sym (append_assoc a b rest))) (same_append (a ++ b) (b ++ a) rest rest (same_swap a b) (λ i. refl)))
-    (same_eq ((b ++ a) ++ rest) (b ++ (a ++ rest)) (append_assoc b a rest))
-
 -- What the removed nodes hold stands beside the tree after the pass.
 pub removed_there : (p : Pass) (nodes : NodeId → Option Node) (changes : Changes) (shape : Shape) → (repaired : IsRepaired p nodes changes shape) → HoldsRemoved (outcome_of p).loose (cells_of repaired.tree.0 repaired.tree.1 ++ p.rest) nodes changes
 removed_there p nodes changes shape repaired = record {
   kept = repaired.kept;
   removed = repaired.removed;
   loose-are = repaired.loose;
-  owned = owned_same nodes (cells_of repaired.tree.0 repaired.tree.1 ++ (flat_map kept_cells repaired.kept ++ p.rest)) _ repaired.owned (swap_first (cells_of repaired.tree.0 repaired.tree.1) (flat_map kept_cells repaired.kept) p.rest);
+  owned = owned_same nodes (cells_of repaired.tree.0 repaired.tree.1 ++ (flat_map kept_cells repaired.kept ++ p.rest)) _ repaired.owned (same_pass (cells_of repaired.tree.0 repaired.tree.1) (flat_map kept_cells repaired.kept) p.rest);
 }
 
 -- Where they are dropped, it stands alone.
