@@ -103,7 +103,7 @@ placed_at nodes (suc n) id children e =
 
 -- ---- cells of distinct ids
 
-apart_turned : (id other : NodeId) → same_place id other ≡ false → same_place other id ≡ false
+pub apart_turned : (id other : NodeId) → same_place id other ≡ false → same_place other id ≡ false
 apart_turned id other apart = elim (eqb_tells other.place id.place) [
   | inl same ↦ absurd (let t = eq-eqb id.place other.place (sym same.1) in cc)
   | inr other ↦ other.0

@@ -20,6 +20,7 @@ use Rattle.palm_arena.specs.Passes.{Pass, is_among, leaf_sites}
 use Rattle.palm_arena.proofs.CellLists.{owned_front, owned_same, same_append, same_trans, same_eq, same_pass}
 use Rattle.palm_arena.proofs.LevelCells.{level_cells}
 use Rattle.palm_arena.proofs.ListParts.{flat_flat, all_both, flat_all}
+use Rattle.palm_arena.proofs.PlacedTrees.{apart_turned}
 use Rattle.palm_route.specs.declared.part.Part.{Part}
 use Rattle.palm_leaf.specs.Loads.{LeafLoad, load_group}
 
@@ -106,9 +107,6 @@ distinct nodes (load ∷ loads) others owned =
       distinct nodes loads (cell ∷ others) (owned_same nodes ((cell ∷ []) ++ (map load_cell loads ++ others)) (map load_cell loads ++ (cell ∷ others)) owned (same_pass (cell ∷ []) (map load_cell loads) others)),
     )
 
-same_swapped : (id other : NodeId) → same_place id other ≡ false → same_place other id ≡ false
-same_swapped id other apart = ne_eqb other.place id.place (λ e. let same = eq-eqb id.place other.place (sym e) in absurd cc)
-
 not_among : (id : NodeId) (loads : List LeafLoad) → AllByRecursion (λ load. same_place load.site.place.0 id ≡ false) loads → is_among (touched_ids loads) id ≡ false
 not_among id [] apart = refl
 not_among id (load ∷ loads) apart = by load.site load.low load.parts apart.0 (not_among id loads apart.1)
@@ -140,7 +138,7 @@ all_hit [] all = tt
 all_hit (load ∷ loads) all = (
   hit_own load loads (not_among load.site.place.0 loads all.0),
   every_weaker (λ later. (same_place later.site.place.0 load.site.place.0 ≡ false) × IsHit (touched_ids loads) later) (IsHit (touched_ids (load ∷ loads)))
-      (λ later both. hit_later load later loads (same_swapped later.site.place.0 load.site.place.0 both.0) both.1) loads
+      (λ later both. hit_later load later loads (apart_turned later.site.place.0 load.site.place.0 both.0) both.1) loads
       (all_both (λ later. same_place later.site.place.0 load.site.place.0 ≡ false) (IsHit (touched_ids loads)) loads all.0 (all_hit loads all.1)),
 )
 
