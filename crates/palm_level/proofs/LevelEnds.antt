@@ -77,7 +77,7 @@ both_true true b e = (refl, e)
 both_true false b e = absurd cc
 
 -- Where each changed child stands for itself alone, what is left of the children is the children.
-still_bare : (W : NodeId → Bool) (l : ℕ) (rs : List (Result l)) → AllByRecursion (StandsForItself W l) rs → AllByRecursion (IsPassed l) rs → is_still (changes_in W l rs) ≡ true → flat_map (λ r. bare r.pieces) rs ≡ map own rs
+pub still_bare : (W : NodeId → Bool) (l : ℕ) (rs : List (Result l)) → AllByRecursion (StandsForItself W l) rs → AllByRecursion (IsPassed l) rs → is_still (changes_in W l rs) ≡ true → flat_map (λ r. bare r.pieces) rs ≡ map own rs
 still_bare W l [] still passed alone = refl
 still_bare W l (r ∷ rs) still passed alone = by (is_hit W l r) refl alone (still_bare W l rs still.1 passed.1)
   where

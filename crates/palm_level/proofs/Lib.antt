@@ -5,7 +5,7 @@ pub mod Families
 mod Finishing
 mod LaterParts
 mod Lending
-mod LevelEnds
+pub mod LevelEnds
 mod LevelFacts
 mod LevelFits
 pub mod Parent

@@ -1,17 +1,12 @@
 -- A root whose children each stand for themselves stays as it is.
 use Rattle.std.proofs.Common.{◌≡◌, ℕ, zero, suc, ◌+◌, ◌-◌, ◌*◌, ◌<◌, ◌≤◌, Bool, true, false, cond, List, [], ◌∷◌, ◌++◌, length, map, get_or, Option, Some, None, refl, sym, ap, subst, arith, ◌∙◌, inl, inr, eq-eqb, eqb-true}
 use Rattle.std.specs.Prelude.{MatchOption}
-use Rattle.std.specs.List.{flat_map, filter, AllByRecursion}
+use Rattle.std.specs.List.{filter, AllByRecursion}
 use Rattle.std.proofs.lemmas.List.{append-nil}
 use Rattle.std.proofs.lemmas.Bool.{lt-ltb, le-ltb}
-use Rattle.palm_base.specs.Tree.{Subtree}
-use Rattle.palm_base.specs.Pass.{Outcome, below, pass, leaves_of, nodes_over, node_over, rows_under, with_lows, is_small}
-use Rattle.palm_base.specs.declared.call.Call.{Call}
 use Rattle.std.proofs.lemmas.Bool.{and_parts}
-use Rattle.palm_base.specs.Cut.{cut}
 use Rattle.palm_base.specs.Lawful.{next_low, Root}
-use Rattle.palm_base.specs.Table.{row_key, after_all}
-use Rattle.palm_base.specs.declared.bounds.TheConstants.{LEAST_LEAF_ROWS, LEAST_CHILDREN, MOST_LEAF_ROWS, MOST_CHILDREN}
+use Rattle.palm_base.specs.declared.bounds.TheConstants.{MOST_CHILDREN}
 use Rattle.palm_node.specs.InnerNode.{InnerNode}
 use Rattle.palm_node.specs.declared.id.NodeId.{NodeId}
 use Rattle.palm_node.specs.declared.id.Piece.{Piece}
@@ -24,12 +19,11 @@ use Rattle.palm_arena.specs.Placed.{Placed, PlacedTree, value_in, value_of, valu
 use Rattle.palm_arena.specs.Sites.{Site, sites_below}
 use Rattle.palm_arena.specs.Standing.{Result, is_hit, StandsForItself, change_of}
 use Rattle.palm_arena.specs.Passes.{Pass, is_among, IsRepaired}
-use Rattle.palm_arena.proofs.SitePasses.{site_pass}
 use Rattle.palm_arena.proofs.Natural.{length-map'}
 use Rattle.palm_arena.proofs.Keeping.{same_id}
 use Rattle.palm_arena.proofs.OwnedTrees.{values_length, first_value}
 use Rattle.palm_level.proofs.Families.{passed_all}
-use Rattle.palm_level.specs.Families.{Family, IsFamily, IsPassed, pieces_under}
+use Rattle.palm_level.specs.Families.{Family, IsFamily, pieces_under}
 use Rattle.palm_level.specs.Groups.{is_alone, is_still}
 use Rattle.palm_level.specs.Splices.{PlacesRise, children_left}
 use Rattle.palm_level.proofs.Bare.{own, changes_in, flat_bare, family_own, family_left, family_places, family_steps, inner_of, StepsFrom}
@@ -48,56 +42,11 @@ use Rattle.palm_root.proofs.Sweeping.{gone_turns}
 use Rattle.palm_level.proofs.Within.{under_more}
 use Rattle.palm_level.proofs.Bounds.{more_in}
 use Rattle.palm_level.proofs.Bare.{family_length}
+use Rattle.palm_level.proofs.LevelEnds.{still_bare}
 use Rattle.palm_arena.specs.Passes.{IsWithin}
 use Rattle.palm_root.proofs.Raised.{bare_length}
 use Rattle.palm_root.specs.Roots.{StandsBelow, root_cells, HasLeft, IsFound, IsFew, IsHeadOf, HasPut, cell_at}
 use Rattle.palm_root.proofs.RootLeft.{LeafRoot, InnerRoot, at_root, inner_left, inner_held, leaf_left, left_alone, left_under}
-
--- ---- a node that stands for itself
-
-first_of : {X Y : Type 0} (low : X → ℕ) (node : List X → Y) (first : ℕ) (parts : List (List X)) (y : ℕ × Y) (ys : List (ℕ × Y)) → with_lows low node first parts ≡ y ∷ ys → y.0 ≡ first
-first_of low node first [] y ys e = absurd cc
-first_of low node first (part ∷ parts) y ys e = ap (λ (p : List (ℕ × _)). (get_or p 0 y).0) (sym e)
-
--- The first piece of a node keeps the low that the node has.
-first_piece : (l low : ℕ) (node : Subtree l) (edits : List Call) (x : ℕ × Subtree l) (xs : List (ℕ × Subtree l)) → (pass l low node edits).pieces ≡ x ∷ xs → x.0 ≡ low
-unfolding pass
-first_piece zero low rows edits x xs e = by (is_small LEAST_LEAF_ROWS (after_all rows edits)) e
-  where
-    by : (b : Bool) → (cond {A = Outcome zero} b (record { pieces = []; loose = after_all rows edits }) (record { pieces = leaves_of low (after_all rows edits); loose = [] })).pieces ≡ x ∷ xs → x.0 ≡ low
-    by true e = absurd cc
-    by false e = first_of row_key (λ part. part) low (cut MOST_LEAF_ROWS (after_all rows edits)) x xs e
-first_piece (suc n) low children edits x xs e = by (is_small LEAST_CHILDREN (below n (pass n) children edits).pieces) e
-  where
-    left : Outcome n
-    left = below n (pass n) children edits
-
-    by : (b : Bool) → (cond {A = Outcome (suc n)} b (record { pieces = []; loose = rows_under n left.pieces ++ left.loose }) (record { pieces = nodes_over low left.pieces; loose = left.loose })).pieces ≡ x ∷ xs → x.0 ≡ low
-    by true e = absurd cc
-    by false e = first_of (λ (child : ℕ × Subtree n). child.0) node_over low (cut MOST_CHILDREN left.pieces) x xs e
-
-alone_own : (l : ℕ) (result : Result l) → IsPassed l result → is_alone result.site.place.0 (bare result.pieces) ≡ true → bare result.pieces ≡ own result ∷ []
-alone_own l result passed alone = by result.pieces passed alone
-  where
-    by : (pieces : List (ℕ × Placed l)) → values l pieces ≡ (site_pass l result.site).pieces → is_alone result.site.place.0 (bare pieces) ≡ true → bare pieces ≡ own result ∷ []
-    by [] passed alone = absurd cc
-    by (p ∷ q ∷ ps) passed alone = absurd cc
-    by (p ∷ []) passed alone =
-        let low : p.0 ≡ result.site.low = first_piece l result.site.low (value_in l result.site.place.1) result.site.edits (p.0, value_in l p.1.1) [] (sym passed) in
-        let id : p.1.0 ≡ result.site.place.0 = same_id p.1.0 result.site.place.0 (eqb-true p.1.0.place result.site.place.0.place alone) in
-        ap (λ (n : ℕ). let q : Piece = record { low = n; id = p.1.0 } in q ∷ []) low ∙ ap (λ (i : NodeId). let q : Piece = record { low = result.site.low; id = i } in q ∷ []) id
-
-still_own : (touched : NodeId → Bool) (l : ℕ) (results : List (Result l)) → AllByRecursion (StandsForItself touched l) results → AllByRecursion (IsPassed l) results → is_still (changes_in touched l results) ≡ true
-    → flat_map (λ r. bare r.pieces) results ≡ map own results
-still_own touched l [] itself passed still = refl
-still_own touched l (r ∷ rs) itself passed still = by (is_hit touched l r) refl still (still_own touched l rs itself.1 passed.1)
-  where
-    by : (b : Bool) → is_hit touched l r ≡ b → is_still (map (change_of l) (cond b (r ∷ filter (is_hit touched l) rs) (filter (is_hit touched l) rs))) ≡ true
-        → (is_still (changes_in touched l rs) ≡ true → flat_map (λ r. bare r.pieces) rs ≡ map own rs) → bare r.pieces ++ flat_map (λ r. bare r.pieces) rs ≡ map own (r ∷ rs)
-    by true hit still rest =
-        let parts = and_parts (is_alone r.site.place.0 (bare r.pieces)) (is_still (changes_in touched l rs)) still in
-        ap (λ ps. ps ++ flat_map (λ r. bare r.pieces) rs) (alone_own l r passed.0 parts.0) ∙ ap (λ ps. own r ∷ ps) (rest parts.1)
-    by false hit still rest = ap (λ ps. bare ps ++ flat_map (λ r. bare r.pieces) rs) (itself.0 hit) ∙ ap (λ ps. own r ∷ ps) (rest still)
 
 -- ---- a root leaf
 
@@ -238,7 +187,7 @@ inner_found p nodes shape changes inner left s more read is = by left is
     by None still =
         let passed = passed_all touched at.n 0 at.stands.results at.stands.right in
         let own_pieces : bare (pieces_under at.n at.stands.results) ≡ bare at.root.place.1 =
-        sym (flat_bare at.n at.stands.results) ∙ still_own touched at.n at.stands.results at.stands.still passed (sym (ap is_still at.stands.changed) ∙ still)
+        sym (flat_bare at.n at.stands.results) ∙ still_bare touched at.n at.stands.results at.stands.still passed (sym (ap is_still at.stands.changed) ∙ still)
         ∙ family_own at.n (root_family p nodes changes at) (is_family p nodes changes at) in
         let count = values_length at.n at.root.place.1 in
         left_under p nodes changes shape at.n at.root.place.1 (subst (HasLeft p ((p.tree.1.0, Inner (inner_of at.root.place.1)) ∷ []) nodes changes at.n) own_pieces has)
