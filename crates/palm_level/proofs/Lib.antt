@@ -15,5 +15,5 @@ mod Running
 pub mod SoundSites
 mod Splicing
 mod Split
-mod Taking
+pub mod Taking
 pub mod Within

@@ -38,11 +38,11 @@ use Rattle.palm_arena.specs.ArenaState.{ArenaState, node_at, with_place}
 use Rattle.palm_arena.specs.Reads.{map_of}
 use Rattle.palm_arena.specs.Cells.{Turns}
 use Rattle.palm_arena.specs.declared.place.Place.TheVariants.{Empty}
-use Rattle.palm_root.proofs.Sweeping.{gone_turns}
 use Rattle.palm_level.proofs.Within.{under_more}
 use Rattle.palm_level.proofs.Bounds.{more_in}
 use Rattle.palm_level.proofs.Bare.{family_length}
 use Rattle.palm_level.proofs.LevelEnds.{still_bare}
+use Rattle.palm_level.proofs.Taking.{dropped_turns}
 use Rattle.palm_arena.specs.Passes.{IsWithin}
 use Rattle.palm_root.proofs.Raised.{bare_length}
 use Rattle.palm_root.specs.Roots.{StandsBelow, root_cells, HasLeft, IsFound, IsFew, IsHeadOf, HasPut, cell_at}
@@ -267,7 +267,7 @@ dropped_root old new shape more held gone = rw (lt-ltb 1 shape.levels more) (by 
   where
     by : (at : Option Node) → IsSome at → Turns (map_of old.places) (map_of new.places) (cell_at shape.root at) []
     by None none = absurd cc
-    by (Some node) some = gone_turns old new shape.root node gone
+    by (Some node) some = dropped_turns old new shape.root node gone
 
 -- What the root's cell is, where changes stand below it.
 pub root_is_held : (p : Pass) (nodes : NodeId → Option Node) (shape : Shape) (changes : Changes) → StandsBelow p nodes shape changes → 1 < shape.levels → IsSome (nodes shape.root)

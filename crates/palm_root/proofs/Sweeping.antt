@@ -20,7 +20,6 @@ use Rattle.palm_node.specs.declared.id.NodeId.{NodeId}
 use Rattle.palm_node.specs.declared.node.Node.{Node}
 use Rattle.palm_node.specs.declared.node.Node.TheVariants.{Leaf, Inner}
 use Rattle.palm_arena.specs.ArenaState.{ArenaState, with_place, NoneLent}
-use Rattle.palm_arena.specs.Reads.{map_of}
 use Rattle.palm_arena.specs.declared.place.Place.TheVariants.{Empty}
 use Rattle.palm_arena.specs.Cells.{Cell, Owns, Turns}
 use Rattle.palm_arena.specs.Placed.{Body, Placed, value_in, value_of, cells_of, node_of, ids_of_children}
@@ -29,7 +28,6 @@ use Rattle.palm_arena.specs.Standing.{Kept, kept_cells, kept_rows, removed_of}
 use Rattle.palm_node.specs.declared.change.Removed.{Removed}
 use Rattle.palm_arena.proofs.ListParts.{flat_map'}
 use Rattle.palm_arena.proofs.Natural.{length-map'}
-use Rattle.palm_arena.proofs.Turning.{drop_turns}
 use Rattle.palm_arena.proofs.Standing.{none_lent_after_put}
 use Rattle.palm_arena.proofs.CellLists.{owned_front, owned_same, same_pass}
 use Rattle.palm_root.specs.Sweeps.{StandsIn, IsSwept, IsHalfSwept, AreSwept, HoldsRemoved, children_in, kept_children}
@@ -184,9 +182,6 @@ pub children_over : (kept : Kept) (ids : List NodeId) (i : ℕ) → ids ≡ map 
 children_over kept ids i is l = let m : length ids ≡ length (kept_children kept) = ap length is ∙ length-map' (λ (child : Kept). child.place.0) (kept_children kept) in omega arith
 
 -- ---- what dropping a node does
-
-pub gone_turns : (old new : ArenaState) (id : NodeId) (node : Node) → new ≡ record old { places = with_place old.places id Empty } → Turns (map_of old.places) (map_of new.places) ((id, node) ∷ []) []
-gone_turns old new id node e = subst (λ (a : ArenaState). Turns (map_of old.places) (map_of a.places) ((id, node) ∷ []) []) (sym e) (drop_turns old.places id node)
 
 pub gone_home : (old new : ArenaState) (id : NodeId) → new ≡ record old { places = with_place old.places id Empty } → NoneLent old.places → NoneLent new.places
 gone_home old new id e home = subst (λ (a : ArenaState). NoneLent a.places) (sym e) (none_lent_after_put old.places id Empty (λ e. cc) home)

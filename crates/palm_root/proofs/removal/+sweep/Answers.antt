@@ -1,10 +1,11 @@
 use Rattle.std.proofs.Common.{◌<◌, refl, ap, sym, ◌∙◌, Some, get_or, arith, is_some, subst}
+use Rattle.palm_level.proofs.Taking.{dropped_turns}
 use Rattle.palm_arena.specs.Reads.{map_of}
 use Rattle.palm_arena.specs.Placed.{node_of}
 use Rattle.palm_node.specs.declared.id.NodeId.{NodeId}
 use Rattle.palm_node.specs.declared.node.Node.TheVariants.{Leaf}
 use Rattle.palm_root.specs.Sweeps.{kept_children}
-use Rattle.palm_root.proofs.Sweeping.{held, inner_read, leaf_dropped, half_none, half_next, half_more, half_held, half_last, beside, child_id, children_over, gone_turns, gone_home}
+use Rattle.palm_root.proofs.Sweeping.{held, inner_read, leaf_dropped, half_none, half_next, half_more, half_held, half_last, beside, child_id, children_over, gone_home}
 use Rattle.palm_root.proofs.removal.+sweep.Goals as goal
 
 pub read-requires : goal.read-requires
@@ -13,7 +14,7 @@ read-requires t c = held (map_of c.args.arena.now.places) c.args.below c.args.id
 pub returns-in-Leaf-clause-swept : goal.returns-in-Leaf-clause-swept
 returns-in-Leaf-clause-swept t c kept others stands =
     leaf_dropped (map_of c.args.arena.now.places) (map_of c.drop_node.new.self.places) c.args.below c.args.id c.args.rows.now.items c.gather.new.rows.items kept others c.in-Leaf.leaf
-    stands (c.read.ensures.node ∙ ap Some c.in-Leaf.is) c.in_ok-gather-in-Leaf.ensures (gone_turns c.args.arena.now c.drop_node.new.self c.args.id (Leaf c.in-Leaf.leaf) c.in_ok-drop_node-in-Leaf.ensures.ok)
+    stands (c.read.ensures.node ∙ ap Some c.in-Leaf.is) c.in_ok-gather-in-Leaf.ensures (dropped_turns c.args.arena.now c.drop_node.new.self c.args.id (Leaf c.in-Leaf.leaf) c.in_ok-drop_node-in-Leaf.ensures.ok)
 
 pub returns-in-Leaf-clause-none_lent : goal.returns-in-Leaf-clause-none_lent
 returns-in-Leaf-clause-none_lent t c = gone_home c.args.arena.now c.drop_node.new.self c.args.id c.in_ok-drop_node-in-Leaf.ensures.ok c.requires.none_lent
@@ -82,7 +83,7 @@ returns-clause-swept t c kept others stands =
     let ids = c.as_slice-child-items.ensures.value ∙ c.children_of-children.ensures ∙ is.1 in
     let over = children_over kept c.as_slice-child-items.result.now c.loop-child.child-index ids c.loop-child-test.false in
     half_last (map_of c.loop-child.arena.places) (map_of c.drop_node-2.new.self.places) c.args.rows.now.items c.loop-child.rows.items kept others c.args.id c.loop-child.child-index stands.id-is (subst (λ n. 0 < n) (sym stands.below-is) is.0) over
-    (c.loop-child.invariant.half kept others stands) (gone_turns c.loop-child.arena c.drop_node-2.new.self c.args.id (node_of kept.below kept.place.1) c.in_ok-drop_node.ensures.ok)
+    (c.loop-child.invariant.half kept others stands) (dropped_turns c.loop-child.arena c.drop_node-2.new.self c.args.id (node_of kept.below kept.place.1) c.in_ok-drop_node.ensures.ok)
 
 pub returns-clause-none_lent : goal.returns-clause-none_lent
 returns-clause-none_lent t c = gone_home c.loop-child.arena c.drop_node-2.new.self c.args.id c.in_ok-drop_node.ensures.ok c.loop-child.invariant.none_lent
