@@ -4,6 +4,7 @@ use Rattle.std.specs.Prelude.{Option, reverse, sum_by}
 use Rattle.std.specs.List.{flat_map, AllByRecursion, AllZip}
 use Rattle.std.proofs.lemmas.List.{reverse-append, reverse-reverse}
 use Rattle.std.proofs.lemmas.List.Sums.{sum_by-append}
+use Rattle.std.proofs.lemmas.List.Sorted.{IsPermutation-reverse, sum_by-IsPermutation}
 use mathlib.Core.List.{map-append}
 use Rattle.palm_base.specs.declared.row.Row.{Row}
 use Rattle.palm_node.specs.declared.id.NodeId.{NodeId}
@@ -130,11 +131,6 @@ answers_are start least (group ∷ groups) (work ∷ works) all =
 sum_first : {X : Type 0} (f : X → ℕ) (x : X) (xs : List X) → sum_by f (x ∷ xs) ≡ f x + sum_by f xs
 sum_first f x xs = omega (arith, sum_by-append f (x ∷ []) xs)
 
-sum_back : {X : Type 0} (f : X → ℕ) (xs : List X) → sum_by f (reverse xs) ≡ sum_by f xs
-sum_back f [] = refl
-sum_back f (x ∷ xs) =
-    ap (sum_by f) (reverse_first x xs) ∙ omega (arith, sum_by-append f (reverse xs) (x ∷ []), sum_back f xs, sum_first f x xs)
-
 pub some_parts : (groups : List Group) → AllByRecursion (λ group. 1 ≤ length group.parts) groups → length groups ≤ parts_in groups
 some_parts [] all = omega arith
 some_parts (group ∷ groups) all = omega (arith, all.0, some_parts groups all.1, sum_first (λ (g : Group). length g.parts) group groups)
@@ -150,7 +146,7 @@ few_later start least (group ∷ groups) (work ∷ works) all =
 pub later_few : (start : NodeId → Option Node) (least : ℕ) (groups : List Group) (works : List LeafWork) → Matched (IsEnded start least) groups works → sum_by (λ (done : LeafDone). length done.plan.later.items) (map done_of (reverse works)) ≤ parts_in groups
 later_few start least groups works all =
     let f : LeafDone → ℕ = λ (done : LeafDone). length done.plan.later.items in
-    rw (map_back done_of works, sum_back f (map done_of works)) (few_later start least groups works all)
+    rw (map_back done_of works, sum_by-IsPermutation f (map done_of works) (reverse (map done_of works)) (IsPermutation-reverse (map done_of works))) (few_later start least groups works all)
 
 changes_count : (ids : List (List NodeId)) (ends : List LeafEnd) → Fit ids ends → length (changes_at ids ends) ≡ length ends
 changes_count [] [] fit = refl

@@ -5,6 +5,7 @@ use Rattle.std.specs.List.{flat_map, AllByRecursion, AllZip}
 use Rattle.std.proofs.lemmas.List.{append-nil, reverse-append, reverse-reverse}
 use Rattle.std.proofs.lemmas.List.Concat.{flat_map-append}
 use Rattle.std.proofs.lemmas.List.Sums.{sum_by-append, sum_by-cons}
+use Rattle.std.proofs.lemmas.List.Sorted.{IsPermutation-reverse, sum_by-IsPermutation}
 use Rattle.palm_node.specs.declared.id.NodeId.{NodeId}
 use Rattle.palm_node.specs.declared.node.Node.{Node}
 use Rattle.palm_node.specs.declared.node.Node.TheVariants.{Inner}
@@ -135,14 +136,7 @@ later_spare nodes (Some t ∷ ts) all =
         ∙ sym (ap (λ (o : Option Node). spare_in (inner_in o) t.parent.changes.now) can.held)
         ∙ sym (ap (λ s. cond s 0 (spare_in (inner_in (nodes t.parent.node)) t.parent.changes.now)) done.0)
 
-sum_reversed : {X : Type 0} (f : X → ℕ) (xs : List X) → sum_by f (reverse xs) ≡ sum_by f xs
-sum_reversed f [] = refl
-sum_reversed f (x ∷ xs) =
-    let a = ap (sum_by f) (reverse-append (x ∷ []) xs) ∙ sum_by-append f (reverse xs) (x ∷ []) in
-    let b = sum_by-cons f x [] in let c = sum_by-cons f x xs in let d = sum_reversed f xs in
-    omega (arith, a, b, c, d)
-
 pub taken : (a b : ArenaState) (planned : List Planned) (ready ran : List (Option Task)) → HasLent a b planned ready → RanTo (map_of a.places) ready ran → sum_by later_of ran ≡ sum_by (spare_of (map_of a.places)) (map planned_key planned)
 taken a b planned ready ran lent to =
     later_spare (map_of a.places) ran to.done ∙ ap (sum_by (spare_of (map_of a.places))) to.keys
-    ∙ sym (sum_reversed (spare_of (map_of a.places)) (map task_key ready)) ∙ ap (sum_by (spare_of (map_of a.places))) lent.keys
+    ∙ sym (sum_by-IsPermutation (spare_of (map_of a.places)) (map task_key ready) (reverse (map task_key ready)) (IsPermutation-reverse (map task_key ready))) ∙ ap (sum_by (spare_of (map_of a.places))) lent.keys
