@@ -1,6 +1,7 @@
 -- The answers of the leaves that a List meets make the table's reply.
 use Rattle.std.proofs.Common.{◌≡◌, ℕ, suc, ◌<◌, ◌≤◌, Bool, true, false, cond, ltb, leb, eqb, ◌&&◌, List, [], ◌∷◌, ◌++◌, take, refl, sym, ap, ◌∙◌, append_assoc, arith, ◌⊎◌, inl, inr}
 use Rattle.std.specs.List.{fold, filter, flat_map, AllByRecursion}
+use Rattle.std.proofs.Math.Bool.{and-false}
 use Rattle.std.proofs.lemmas.Bool.{cases_lt, lt-ltb, le-ltb, lt-leb, le-leb, ne_eqb, ltb-true, leb-true}
 use Rattle.std.proofs.lemmas.Bool.Decides.{nat_tests}
 use Rattle.std.proofs.lemmas.List.{append-nil, take_all}
@@ -138,11 +139,7 @@ same_later from low to lows less above =
 
 none_later : (from low to : ℕ) (lows : List ℕ) → to < low → AllByRecursion (λ later. low < later) lows → filter (is_later from to) lows ≡ []
 none_later from low to lows past above =
-    filter_none (is_later from to) lows (every_weaker (λ later. low < later) (λ later. is_later from to later ≡ false) (λ later is. rw (lt-leb later to (omega (arith, is, past))) (and_false (ltb from later))) lows above)
-  where
-    and_false : (b : Bool) → (b && false) ≡ false
-    and_false true = refl
-    and_false false = refl
+    filter_none (is_later from to) lows (every_weaker (λ later. low < later) (λ later. is_later from to later ≡ false) (λ later is. rw (lt-leb later to (omega (arith, is, past))) (and-false (ltb from later))) lows above)
 
 -- The later keys lie from the first on.
 all_later : (first to low : ℕ) (lows : List ℕ) → low ≤ first → AllByRecursion (λ k. low ≤ k) (first ∷ filter (is_later first to) lows)

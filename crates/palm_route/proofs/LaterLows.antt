@@ -1,6 +1,7 @@
 -- The lows of leaves that lie above one key and not above another: child by child of an inner node.
-use Rattle.std.proofs.Common.{◌≡◌, ℕ, zero, suc, ◌+◌, ◌<◌, ◌≤◌, Bool, true, false, ltb, ◌&&◌, List, [], ◌∷◌, ◌++◌, length, map, get_or, drop, filter, Option, refl, sym, ap, arith, ◌∙◌, ◌⊎◌, inl, inr}
+use Rattle.std.proofs.Common.{◌≡◌, ℕ, zero, suc, ◌+◌, ◌<◌, ◌≤◌, ltb, List, [], ◌∷◌, ◌++◌, length, map, get_or, drop, filter, Option, refl, sym, ap, arith, ◌∙◌, ◌⊎◌, inl, inr}
 use Rattle.std.specs.List.{AllByRecursion}
+use Rattle.std.proofs.Math.Bool.{and-false}
 use Rattle.std.proofs.lemmas.Bool.{cases_lt, le-ltb, lt-leb}
 use Rattle.std.proofs.lemmas.List.{map-append}
 use Rattle.std.proofs.lemmas.List.Elements.{filter-append}
@@ -24,17 +25,13 @@ pub later_append : (from to : ℕ) (left right : List LeafPlace) → later_lows 
 later_append from to left right =
     ap (filter (is_later from to)) (map-append (λ (place : LeafPlace). place.low) left right) ∙ filter-append (is_later from to) (lows_of left) (lows_of right)
 
-and_false : (b : Bool) → (b && false) ≡ false
-and_false true = refl
-and_false false = refl
-
 none_when : (from to : ℕ) (places : List LeafPlace) → AllByRecursion (λ (place : LeafPlace). (place.low ≤ from) ⊎ (to < place.low)) places → later_lows from to places ≡ []
 none_when from to [] all = refl
 none_when from to (place ∷ places) all = by all.0 (none_when from to places all.1)
   where
     by : (place.low ≤ from) ⊎ (to < place.low) → later_lows from to places ≡ [] → later_lows from to (place ∷ places) ≡ []
     by (inl least) rest = rw (le-ltb from place.low least) rest
-    by (inr past) rest = rw (lt-leb place.low to past, and_false (ltb from place.low)) rest
+    by (inr past) rest = rw (lt-leb place.low to past, and-false (ltb from place.low)) rest
 
 within_when : (from to low high : ℕ) (places : List LeafPlace) → (high ≤ from) ⊎ (to < low) → AllByRecursion (λ (place : LeafPlace). (low ≤ place.low) × (place.low < high)) places
     → AllByRecursion (λ (place : LeafPlace). (place.low ≤ from) ⊎ (to < place.low)) places

@@ -2,7 +2,7 @@
 use Rattle.std.proofs.Common.{◌≡◌, ℕ, ◌<◌, ◌≤◌, Bool, true, false, ltb, leb, eqb, cond, List, [], ◌∷◌, map, filter, Some, refl, sym, ap, subst, arith, ◌∙◌, ◌⊎◌, inl, inr}
 use Rattle.std.specs.List.{AllByRecursion}
 use Rattle.std.proofs.lemmas.Bool.Decides.{nat_tests}
-use Rattle.std.proofs.lemmas.Bool.{cases_lt, lt-ltb, le-ltb, lt-leb, le-leb, ne_eqb}
+use Rattle.std.proofs.lemmas.Bool.{cases_lt, lt-ltb, le-ltb, lt-leb, le-leb, ne_eqb, leb-true}
 use Rattle.std.proofs.lemmas.Option.{same_Some}
 use Rattle.palm_arena.specs.Leaves.{LeafPlace, leaf_for}
 use Rattle.palm_base.proofs.Every.{every_filter}
@@ -40,9 +40,6 @@ above_first first next places routed up is least = low_above routed.part.key fir
 pub eqb_same : (a b : ℕ) → a ≡ b → eqb a b ≡ true
 eqb_same a b e = grind (arith, nat_tests)
 
-leb_true : (a b : ℕ) → leb a b ≡ true → a ≤ b
-leb_true a b e = grind (arith, nat_tests)
-
 -- Left of the second leaf's low are the parts at the first leaf.
 pub left_test : (first next : LeafPlace) (places : List LeafPlace) → LowsRise (first ∷ next ∷ places) → (routed : Routed) → IsRoutedTo (first ∷ next ∷ places) routed
     → ltb routed.part.key next.low ≡ eqb routed.low first.low
@@ -60,7 +57,7 @@ pub all_later : (first next : LeafPlace) (places : List LeafPlace) (parts : List
     → AllByRecursion (IsRoutedTo (next ∷ places)) (filter (λ (routed : Routed). leb next.low routed.part.key) parts)
 all_later first next places parts all =
     every_filter (IsRoutedTo (first ∷ next ∷ places)) (IsRoutedTo (next ∷ places)) (λ (routed : Routed). leb next.low routed.part.key)
-    (λ routed is passes. at_later first next places routed is (leb_true next.low routed.part.key passes)) parts all
+    (λ routed is passes. at_later first next places routed is (leb-true next.low routed.part.key passes)) parts all
 
 -- ---- filters
 
