@@ -16,3 +16,4 @@ pub mod LevelCells
 pub mod NamedNodes
 pub mod PlacedTrees
 pub mod OwnedTrees
+pub mod RouteSteps

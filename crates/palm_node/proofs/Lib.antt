@@ -2,3 +2,4 @@ pub mod HeldRows
 pub mod RisingRows
 pub mod RisingLows
 pub mod TopLevels
+pub mod SameNodes

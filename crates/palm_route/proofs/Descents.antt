@@ -11,6 +11,7 @@ use Rattle.palm_node.specs.InnerNode.{InnerNode}
 use Rattle.palm_node.specs.declared.id.NodeId.{NodeId}
 use Rattle.palm_node.specs.declared.node.Node.{Node}
 use Rattle.palm_node.specs.declared.node.Node.TheVariants.{Inner}
+use Rattle.palm_node.proofs.SameNodes.{inner_same}
 use Rattle.palm_arena.specs.Leaves.{LeafPlace, leaf_for, leaves_under, leaves_at}
 use Rattle.palm_arena.specs.Reads.{HasTree}
 use Rattle.palm_arena.specs.Routes.{route_of}
@@ -75,9 +76,6 @@ pub stands_leaf : (nodes : NodeId → Option Node) (k levels level : ℕ) (path 
 stands_leaf nodes k levels level path low id places s last =
     let none : s.below ≡ 0 = omega (arith, s.reached) in
     s.same ∙ ap (λ n. leaf_for k (leaves_under nodes n path low id)) none
-
-pub inner_same : (a b : InnerNode) (at : Option Node) → at ≡ Some (Inner a) → at ≡ Some (Inner b) → a ≡ b
-inner_same a b at e f = cc
 
 -- The node over which `inner` stands, as it reads.
 pub over_of : (nodes : NodeId → Option Node) (n low : ℕ) (id : NodeId) (inner : InnerNode) → (has : HasRange nodes (suc n) low id) → nodes id ≡ Some (Inner inner)

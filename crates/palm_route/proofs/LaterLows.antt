@@ -12,10 +12,11 @@ use Rattle.palm_node.specs.declared.node.Node.{Node}
 use Rattle.palm_arena.specs.Leaves.{LeafPlace, leaves_of_children, leaves_under}
 use Rattle.palm_arena.specs.Reads.{reads}
 use Rattle.palm_arena.specs.Routes.{route_of}
+use Rattle.palm_arena.proofs.RouteSteps.{route_past}
 use Rattle.palm_route.specs.Parts.{lows_of, is_later}
 use Rattle.palm_route.specs.Ranges.{HasRange}
 use Rattle.palm_route.proofs.Ascents.{Ascends, each_within}
-use Rattle.palm_route.proofs.LeavesUnder.{AreRead, sound_range, all_ascend, children_ascend, route_past, route_none}
+use Rattle.palm_route.proofs.LeavesUnder.{AreRead, sound_range, all_ascend, children_ascend, route_none}
 
 -- Of these leaves, the lows that are later.
 abbrev pub later_lows : ℕ → ℕ → List LeafPlace → List ℕ

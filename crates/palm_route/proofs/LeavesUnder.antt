@@ -1,9 +1,8 @@
 -- The leaves under a node: their ranges begin one after another within the node's, and a key goes to one under the child that
 -- the node routes it to.
-use Rattle.std.proofs.Common.{◌≡◌, ℕ, zero, suc, ◌+◌, ◌<◌, ◌≤◌, leb, cond, List, [], ◌∷◌, ◌++◌, length, map, get_or, Option, Some, refl, ap, arith, ◌∙◌, ◌⊎◌, inl, inr}
-use Rattle.std.proofs.lemmas.Bool.{cases_lt, lt-leb, le-leb}
+use Rattle.std.proofs.Common.{◌≡◌, ℕ, zero, suc, ◌+◌, ◌<◌, ◌≤◌, List, [], ◌∷◌, ◌++◌, length, map, get_or, Option, Some, refl, ap, arith, ◌∙◌, ◌⊎◌, inl, inr}
+use Rattle.std.proofs.lemmas.Bool.{cases_lt}
 use Rattle.std.proofs.lemmas.List.{append-nil}
-use Rattle.std.proofs.lemmas.List.Sums.{sum_by-cons}
 use Rattle.palm_base.specs.Tree.{Subtree}
 use Rattle.palm_base.specs.Lawful.{Sound, InOrder}
 use Rattle.palm_base.specs.declared.bounds.TheConstants.{MOST_CHILDREN}
@@ -15,6 +14,7 @@ use Rattle.palm_arena.specs.Leaves.{leaf_for, leaves_of_node, leaves_of_children
 use Rattle.palm_arena.specs.Reads.{inner_in, reads}
 use Rattle.palm_arena.specs.Routes.{route_of}
 use Rattle.palm_arena.proofs.Readings.{inner_reads}
+use Rattle.palm_arena.proofs.RouteSteps.{route_past, route_before}
 use Rattle.palm_route.specs.Ranges.{IsRange, HasRange}
 use Rattle.palm_route.proofs.Ascents.{Ascends, join, goes_left, goes_right}
 
@@ -100,12 +100,6 @@ all_ascend nodes (suc n) path low high id node e range =
     (children_ascend nodes n (all_ascend nodes n) path id 0 low high known.0.children over.first over.later over.read over.order)
 
 -- ---- one step down
-
-pub route_past : (k low : ℕ) (lows : List ℕ) → low ≤ k → route_of k (low ∷ lows) ≡ suc (route_of k lows)
-route_past k low lows h = sum_by-cons (λ s. cond (leb s k) 1 0) low lows ∙ rw (le-leb low k h) (omega arith)
-
-route_before : (k low : ℕ) (lows : List ℕ) → k < low → route_of k (low ∷ lows) ≡ route_of k lows
-route_before k low lows h = sum_by-cons (λ s. cond (leb s k) 1 0) low lows ∙ rw (lt-leb low k h) (omega arith)
 
 pub route_none : (n k low high : ℕ) (children : List (ℕ × Subtree n)) → k < low → (child : ℕ × Subtree n) → child.0 ≡ low → InOrder n low high (child ∷ children)
     → route_of k (map (λ c. c.0) (child ∷ children)) ≡ 0

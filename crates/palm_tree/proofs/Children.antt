@@ -13,6 +13,7 @@ use Rattle.palm_node.specs.InnerNode.{InnerNode}
 use Rattle.palm_node.specs.declared.id.NodeId.{NodeId}
 use Rattle.palm_node.specs.declared.node.Node.{Node}
 use Rattle.palm_node.specs.declared.node.Node.TheVariants.{Leaf, Inner}
+use Rattle.palm_node.proofs.SameNodes.{inner_same}
 use Rattle.palm_arena.specs.ArenaState.{ArenaState}
 use Rattle.palm_arena.specs.declared.shape.Shape.{Shape}
 use Rattle.palm_arena.specs.Reads.{map_of, reads, leaf_in}
@@ -22,7 +23,7 @@ use Rattle.palm_tree.specs.TreeValue.{tree_over, tree_of, HoldsTree}
 use Rattle.palm_arena.specs.Routes.{separators_of, route_of}
 use Rattle.palm_tree.proofs.Descents.{leads}
 use Rattle.palm_arena.proofs.Readings.{ReadsOver, inner_reads, leaf_reads}
-use Rattle.palm_tree.proofs.Standing.{root_ordered, sound_ordered, inner_same}
+use Rattle.palm_tree.proofs.Standing.{root_ordered, sound_ordered}
 use Rattle.palm_tree.proofs.Values.{value_reads}
 
 -- ---- the rows of ids, where each has those of the child at its place

@@ -1,8 +1,7 @@
 -- A look-up goes down one way: a key's row stands under the child to whose left as many separators are at most the key.
-use Rattle.std.proofs.Common.{◌≡◌, ℕ, suc, ◌<◌, ◌≤◌, Bool, true, false, cond, leb, eqb, List, [], ◌∷◌, ◌++◌, length, get_or, map, take, drop, Some, None, refl, ap, arith, ◌∙◌, ◌⊎◌, inl, inr}
-use Rattle.std.proofs.lemmas.Bool.{cases_lt, lt-leb, le-leb, ne_eqb}
+use Rattle.std.proofs.Common.{◌≡◌, ℕ, suc, ◌<◌, ◌≤◌, Bool, true, false, cond, eqb, List, [], ◌∷◌, ◌++◌, length, get_or, map, take, drop, Some, None, refl, ap, arith, ◌∙◌, ◌⊎◌, inl, inr}
+use Rattle.std.proofs.lemmas.Bool.{cases_lt, ne_eqb}
 use Rattle.std.proofs.lemmas.List.{append-nil}
-use Rattle.std.proofs.lemmas.List.Sums.{sum_by-cons}
 use Rattle.palm_base.specs.Table.{row_key, rate_at}
 use Rattle.palm_base.specs.Tree.{Subtree, rows_in}
 use Rattle.palm_base.specs.Pass.{rows_under}
@@ -12,6 +11,7 @@ use Rattle.palm_base.proofs.SoundNodes.{sound_rises, in_order_rises}
 use Rattle.palm_base.proofs.TableSplits.{Under, From}
 use Rattle.palm_base.specs.declared.row.Row.{Row}
 use Rattle.palm_arena.specs.Routes.{separators_of, route_of}
+use Rattle.palm_arena.proofs.RouteSteps.{route_past, route_before}
 
 -- ---- the rate of a key among rows on two sides
 
@@ -35,18 +35,12 @@ rate_left k low (row ∷ left) right less from = by (eqb (row_key row) k) (rate_
 
 -- ---- routes
 
-route-past : (k low : ℕ) (lows : List ℕ) → low ≤ k → route_of k (low ∷ lows) ≡ suc (route_of k lows)
-route-past k low lows h = sum_by-cons (λ s. cond (leb s k) 1 0) low lows ∙ rw (le-leb low k h) (omega arith)
-
-route-before : (k low : ℕ) (lows : List ℕ) → k < low → route_of k (low ∷ lows) ≡ route_of k lows
-route-before k low lows h = sum_by-cons (λ s. cond (leb s k) 1 0) low lows ∙ rw (lt-leb low k h) (omega arith)
-
 -- No child of some in order begins at or below a key that is below them all.
 route-none : (n k first high : ℕ) (child : ℕ × Subtree n) (children : List (ℕ × Subtree n)) → k < child.0 → InOrder n child.0 high (child ∷ children)
     → route_of k (map (λ c. c.0) (child ∷ children)) ≡ 0
-route-none n k first high child [] less order = route-before k child.0 [] less
+route-none n k first high child [] less order = route_before k child.0 [] less
 route-none n k first high child (next ∷ children) less order =
-    route-before k child.0 (map (λ c. c.0) (next ∷ children)) less ∙ route-none n k first high next children (omega (arith, order.0.0)) order.1
+    route_before k child.0 (map (λ c. c.0) (next ∷ children)) less ∙ route-none n k first high next children (omega (arith, order.0.0)) order.1
 
 under_more : (k low : ℕ) (rows : List Row) → low ≤ k → Under low rows → Under k rows
 under_more k low [] least under = tt
@@ -102,7 +96,7 @@ leads n k first high child (next ∷ children) order = by (leads n k next.0 high
     by rest (inr least) =
         let rise = sound_rises n first next.0 child.1 order.0.1 in
         let under : Under next.0 (rows_in n child.1) = under_range first next.0 _ (rising_range first next.0 _ rise) in
-        let more : route_of k (separators_of (child ∷ next ∷ children)) ≡ suc (route_of k (separators_of (next ∷ children))) = route-past k next.0 (separators_of (next ∷ children)) least in
+        let more : route_of k (separators_of (child ∷ next ∷ children)) ≡ suc (route_of k (separators_of (next ∷ children))) = route_past k next.0 (separators_of (next ∷ children)) least in
         rw more (record {
           inside = omega (arith, rest.inside);
           before = under_join k (rows_in n child.1) _ (under_more k next.0 (rows_in n child.1) least under) rest.before;

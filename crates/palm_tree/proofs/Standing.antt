@@ -10,6 +10,7 @@ use Rattle.palm_node.specs.InnerNode.{InnerNode}
 use Rattle.palm_node.specs.declared.id.NodeId.{NodeId}
 use Rattle.palm_node.specs.declared.node.Node.{Node}
 use Rattle.palm_node.specs.declared.node.Node.TheVariants.{Leaf, Inner}
+use Rattle.palm_node.proofs.SameNodes.{inner_same}
 use Rattle.palm_arena.specs.ArenaState.{ArenaState}
 use Rattle.palm_arena.specs.Reads.{map_of, reads}
 use Rattle.palm_arena.specs.declared.shape.Shape.{Shape}
@@ -59,9 +60,6 @@ pub stands_leaf : (nodes : NodeId → Option Node) (k : ℕ) (rate : Option ℕ)
 unfolding Stands
 stands_leaf nodes k rate levels level id (zero, at, (rows, s)) last = (rows, leaf_reads nodes id rows s.reads-as, s.rated)
 stands_leaf nodes k rate levels level id (suc n, at, (children, s)) last = absurd (omega arith)
-
-pub inner_same : (a b : InnerNode) (at : Option Node) → at ≡ Some (Inner a) → at ≡ Some (Inner b) → a ≡ b
-inner_same a b at e f = cc
 
 -- The child that a key is routed to stands one level down.
 pub stands_next : (nodes : NodeId → Option Node) (k : ℕ) (rate : Option ℕ) (levels level : ℕ) (id child : NodeId) (inner : InnerNode)
