@@ -1,7 +1,9 @@
--- Lists in parts: two parts for each item, lists that follow others, and properties of all items.
-use Rattle.std.proofs.Common.{◌≡◌, List, [], ◌∷◌, ◌++◌, map, refl, sym, ap, ◌∙◌, append_assoc, subst}
+-- Lists in parts: two parts for each item, lists that follow others, fronts that grow, and properties of all items.
+use Rattle.std.proofs.Common.{◌≡◌, ℕ, ◌+◌, List, [], ◌∷◌, ◌++◌, map, take, slice_get, Some, refl, sym, ap, ◌∙◌, append_assoc, subst}
 use Rattle.std.specs.List.{flat_map, AllByRecursion}
 use Rattle.std.specs.List.Sorted.{IsPermutation}
+use Rattle.std.proofs.lemmas.List.{take_more}
+use Rattle.std.proofs.lemmas.Option.{get_or_from_slice_get, slice_get_within}
 use Rattle.std.proofs.lemmas.List.Sorted.{IsPermutation-refl, IsPermutation-trans, IsPermutation-append_comm, IsPermutation-append_left, IsPermutation-append_right}
 use Rattle.std.proofs.lemmas.List.Concat.{flat_map-append}
 use Rattle.palm_base.proofs.Pieces.{every_split}
@@ -91,3 +93,7 @@ part f [] (a ∷ us) bs e = absurd (cc)
 part f (r ∷ rs) (a ∷ us) bs e =
     let p = part f rs us bs (cc) in
     record { first = r ∷ p.first; later = p.later; whole = ap (λ y. r ∷ y) p.whole; of_first = (let q = p.of_first in cc); of_later = p.of_later }
+
+-- The front of a list with one item more: the item that a look-up finds behind it.
+pub take_found : {X : Type 0} (xs : List X) (i : ℕ) (x : X) → slice_get xs i ≡ Some x → take (i + 1) xs ≡ take i xs ++ x ∷ []
+take_found xs i x found = rw (get_or_from_slice_get xs i x x found) at (take_more xs i x (slice_get_within xs i x found))

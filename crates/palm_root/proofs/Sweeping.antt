@@ -1,11 +1,10 @@
 -- Steps of taking a node out of a map with all that is under it.
 use Rattle.std.proofs.Common.{◌≡◌, ◌<◌, ◌≤◌, ◌+◌, ◌-◌, ℕ, zero, suc, List, [], ◌∷◌, ◌++◌, length, map, take, drop, get_or, refl, sym, ap, ◌∙◌, arith, subst, append_assoc, Some, add-one}
-use Rattle.std.specs.Prelude.{slice_get, Option, IsSome}
+use Rattle.std.specs.Prelude.{Option, IsSome}
 use Rattle.std.specs.List.{flat_map}
 use Rattle.std.proofs.lemmas.List.{append-nil, drop_all, take_all}
 use Rattle.std.proofs.lemmas.List.Concat.{flat_map-append}
 use Rattle.std.proofs.Math.Seq.{drop-cons, take-suc}
-use Rattle.std.proofs.lemmas.Option.{slice_get_within, get_or_from_slice_get}
 use Rattle.std.specs.List.Sorted.{IsPermutation, IsNonDecreasingBy}
 use Rattle.std.proofs.lemmas.List.Sorted.{IsPermutation-trans, IsPermutation-sym}
 use Rattle.palm_base.specs.Tree.{rows_in, Subtree}
@@ -31,10 +30,6 @@ use Rattle.palm_arena.proofs.Natural.{length-map'}
 use Rattle.palm_arena.proofs.Standing.{none_lent_after_put}
 use Rattle.palm_arena.proofs.CellLists.{owned_front, owned_same, same_pass}
 use Rattle.palm_root.specs.Sweeps.{StandsIn, IsSwept, IsHalfSwept, AreSwept, HoldsRemoved, children_in, kept_children}
-
--- The next item of a list, behind those before it.
-pub take-next : {X : Type 0} (xs : List X) (i : ℕ) (x : X) → slice_get xs i ≡ Some x → take (i + 1) xs ≡ take i xs ++ x ∷ []
-take-next xs i x e = rw (add-one i) (take-suc xs i x (slice_get_within xs i x e) ∙ ap (λ y. take i xs ++ y ∷ []) (get_or_from_slice_get xs i x x e))
 
 -- ---- a node's own cell, and those of its children
 
