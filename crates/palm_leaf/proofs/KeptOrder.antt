@@ -4,8 +4,9 @@ use Rattle.std.proofs.Common.{◌≡◌, ℕ, ◌≤◌, Bool, true, false, cond
 use Rattle.std.specs.List.{filter, AllByRecursion}
 use Rattle.std.proofs.lemmas.Bool.{cases_lt, lt-ltb, le-ltb, lt-leb, le-leb}
 use Rattle.std.proofs.lemmas.List.Elements.{filter-append}
+use Rattle.palm_route.proofs.Routings.{filter_twice}
 use Rattle.palm_leaf.specs.Spread.{spread}
-use Rattle.palm_leaf.proofs.Filtered.{all_filter, filter-swap}
+use Rattle.palm_leaf.proofs.Filtered.{all_filter}
 
 -- The keys never fall. So 3, 3, 5 don't, and 5, 3 do.
 abbrev pub NeverFall : {X : Type 0} → (X → ℕ) → List X → Type 0
@@ -46,7 +47,7 @@ filter_spread p k [] xs never = refl
 filter_spread p k (low ∷ lows) xs never =
     filter-append p (filter (λ x. ltb (k x) low) xs) (spread k lows (filter (λ x. leb low (k x)) xs))
     ∙ ap (λ l. filter p (filter (λ x. ltb (k x) low) xs) ++ l)
-    (filter_spread p k lows (filter (λ x. leb low (k x)) xs) (subst (NeverFall k) (filter-swap (λ x. leb low (k x)) p xs) (fall_filter k (λ x. leb low (k x)) (filter p xs) never)))
-    ∙ ap (λ l. l ++ filter p (filter (λ x. leb low (k x)) xs)) (filter-swap p (λ x. ltb (k x) low) xs)
-    ∙ ap (λ l. filter (λ x. ltb (k x) low) (filter p xs) ++ l) (filter-swap p (λ x. leb low (k x)) xs)
+    (filter_spread p k lows (filter (λ x. leb low (k x)) xs) (subst (NeverFall k) (filter_twice (λ x. leb low (k x)) p xs) (fall_filter k (λ x. leb low (k x)) (filter p xs) never)))
+    ∙ ap (λ l. l ++ filter p (filter (λ x. leb low (k x)) xs)) (filter_twice p (λ x. ltb (k x) low) xs)
+    ∙ ap (λ l. filter (λ x. ltb (k x) low) (filter p xs) ++ l) (filter_twice p (λ x. leb low (k x)) xs)
     ∙ parted k low (filter p xs) never

@@ -31,9 +31,10 @@ use Rattle.palm_route.specs.declared.part.Ask.{Ask}
 use Rattle.palm_route.specs.declared.part.Ask.TheVariants as ask
 use Rattle.palm_route.specs.declared.part.Part.{Part}
 use Rattle.palm_route.specs.declared.part.Group.{Group}
+use Rattle.palm_route.proofs.Routings.{filter_twice}
 use Rattle.palm_leaf.specs.Routed.{GoesByKey, HasKey, IsRouted, written_low}
 use Rattle.palm_leaf.specs.Loads.{LeafLoad, IsLoad, load_group, Loads}
-use Rattle.palm_leaf.proofs.Filtered.{filter-swap, filter-wider, all_filter}
+use Rattle.palm_leaf.proofs.Filtered.{filter-wider, all_filter}
 
 -- ---- parts beside their edits
 
@@ -73,7 +74,7 @@ groups_join place [] next more parts below = refl
 groups_join place (second ∷ places) next more parts below =
     ap (λ gs. group_at place (filter (λ p. ltb p.key second.low) parts) ++ gs) (groups_join second places next more (filter (λ p. leb second.low p.key) parts) below.1)
     ∙ ap (λ gs. group_at place (filter (λ p. ltb p.key second.low) parts) ++ (groups_of (second ∷ places) gs ++ groups_of (next ∷ more) (filter (λ p. leb next.low p.key) (filter (λ p. leb second.low p.key) parts))))
-    (filter-swap (λ p. ltb p.key next.low) (λ p. leb second.low p.key) parts)
+    (filter_twice (λ p. ltb p.key next.low) (λ p. leb second.low p.key) parts)
     ∙ ap (λ gs. group_at place (filter (λ p. ltb p.key second.low) parts) ++ (groups_of (second ∷ places) (filter (λ p. leb second.low p.key) (filter (λ p. ltb p.key next.low) parts)) ++ groups_of (next ∷ more) gs))
     (filter-wider (λ p. leb next.low p.key) (λ p. leb second.low p.key) parts (λ p e. le-leb second.low p.key (let h = leb-true next.low p.key e in let b = below.0 in omega arith)))
     ∙ ap (λ gs. group_at place gs ++ (groups_of (second ∷ places) (filter (λ p. leb second.low p.key) (filter (λ p. ltb p.key next.low) parts)) ++ groups_of (next ∷ more) (filter (λ p. leb next.low p.key) parts)))

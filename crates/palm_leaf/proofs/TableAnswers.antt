@@ -26,9 +26,9 @@ use mathlib.Core.List.{map-append}
 use Rattle.palm_node.specs.declared.id.NodeId.{NodeId}
 use Rattle.palm_arena.specs.Placed.{Placed, value_in, values}
 use Rattle.palm_arena.specs.Sites.{Site}
-use Rattle.palm_route.proofs.Routings.{filter_none, filter_on}
+use Rattle.palm_route.proofs.Routings.{filter_none, filter_on, filter_twice}
 use Rattle.palm_leaf.specs.Loads.{LeafLoad}
-use Rattle.palm_leaf.proofs.Filtered.{filter-swap, filter-wider, all_filter}
+use Rattle.palm_leaf.proofs.Filtered.{filter-wider, all_filter}
 use Rattle.palm_leaf.proofs.Loads.{loads_of_children, loads_under}
 use Rattle.palm_leaf.specs.Routed.{GoesByKey, HasKey}
 use Rattle.palm_leaf.specs.Spread.{spread}
@@ -181,7 +181,7 @@ pub spread_join : {X : Type 0} (k : X → ℕ) (lows : List ℕ) (mid : ℕ) (la
 spread_join k [] mid later xs below = refl
 spread_join k (low ∷ lows) mid later xs below =
     ap (λ ys. filter (λ x. ltb (k x) low) xs ++ ys) (spread_join k lows mid later (filter (λ x. leb low (k x)) xs) below.1)
-    ∙ ap (λ ys. filter (λ x. ltb (k x) low) xs ++ (spread k lows ys ++ spread k later (filter (λ x. leb mid (k x)) (filter (λ x. leb low (k x)) xs)))) (filter-swap (λ x. ltb (k x) mid) (λ x. leb low (k x)) xs)
+    ∙ ap (λ ys. filter (λ x. ltb (k x) low) xs ++ (spread k lows ys ++ spread k later (filter (λ x. leb mid (k x)) (filter (λ x. leb low (k x)) xs)))) (filter_twice (λ x. ltb (k x) mid) (λ x. leb low (k x)) xs)
     ∙ ap (λ ys. filter (λ x. ltb (k x) low) xs ++ (spread k lows (filter (λ x. leb low (k x)) (filter (λ x. ltb (k x) mid) xs)) ++ spread k later ys))
     (filter-wider (λ x. leb mid (k x)) (λ x. leb low (k x)) xs (λ x e. le-leb low (k x) (let h = leb-true mid (k x) e in let b = below.0 in omega arith)))
     ∙ ap (λ ys. ys ++ (spread k lows (filter (λ x. leb low (k x)) (filter (λ x. ltb (k x) mid) xs)) ++ spread k later (filter (λ x. leb mid (k x)) xs)))
