@@ -5,18 +5,15 @@ use Rattle.std.proofs.lemmas.List.{take-replicate, drop-replicate, map-append, l
 use Rattle.palm_base.specs.declared.digits.TheConstants.{MOST_DIGITS}
 use Rattle.palm_base.specs.Prefix.{AreDigits, IsPrefix, read_of}
 use Rattle.palm_base.specs.Text.{digits_text}
+use Rattle.palm_base.proofs.Every.{every_append}
 use Rattle.palm_base.proofs.Numerals.{read_of-digits_text}
 use Rattle.palm_gen.specs.Generator.{last_digits}
 
 -- ---- digits of a number, and a digit after them
 
-joined_digits : (xs ys : List ℕ) → AreDigits xs → AreDigits ys → AreDigits (xs ++ ys)
-joined_digits [] ys h k = k
-joined_digits (x ∷ xs) ys h k = (h.0, joined_digits xs ys h.1 k)
-
 last_are_digits : (n v : ℕ) → AreDigits (last_digits n v)
 last_are_digits zero v = tt
-last_are_digits (suc n) v = joined_digits (last_digits n (v / 10)) (v % 10 ∷ []) (last_are_digits n (v / 10)) (omega arith, tt)
+last_are_digits (suc n) v = every_append (λ d. d < 10) (last_digits n (v / 10)) (v % 10 ∷ []) (last_are_digits n (v / 10)) (omega arith, tt)
 
 length-last : (n v : ℕ) → length (last_digits n v) ≡ n
 length-last zero v = refl
@@ -32,7 +29,7 @@ are_prefix n v d times some room small =
     record {
       some = omega (arith, size, some);
       few = omega (arith, size, room);
-      small = joined_digits (last_digits n v) (replicate times d) (last_are_digits n v) (same_are_digits times d small);
+      small = every_append (λ d. d < 10) (last_digits n v) (replicate times d) (last_are_digits n v) (same_are_digits times d small);
     }
 
 -- ---- a text that begins with the digits of a number
