@@ -1,51 +1,23 @@
 -- What the leaves of a tree answer the parts of a batch are the answers to the batch.
-use Rattle.std.proofs.Common.{◌≡◌, ℕ, suc, List, [], ◌∷◌, drop, refl, ap}
+use Rattle.std.proofs.Common.{◌≡◌, ℕ, List, [], ◌∷◌, drop, ap}
 use Rattle.std.specs.Prelude.{Option}
 use Rattle.std.specs.List.{AllByRecursion}
-use Rattle.palm_base.specs.Key.{key}
 use Rattle.palm_base.specs.Tree.{Tree, rows_of}
-use Rattle.palm_base.specs.declared.call.Call.{Call}
-use Rattle.palm_base.specs.declared.call.Call.TheVariants.{Set, Del, Get, Rate, List as Listing}
 use Rattle.palm_base.specs.declared.call.Entry.{Entry}
-use Rattle.palm_base.proofs.Every.{every_append}
-use Rattle.palm_base.proofs.Keys.{is_key}
 use Rattle.palm_base.proofs.Lows.{prefixes_in}
 use Rattle.palm_node.specs.declared.id.NodeId.{NodeId}
 use Rattle.palm_node.specs.declared.node.Node.{Node}
 use Rattle.palm_arena.specs.declared.shape.Shape.{Shape}
 use Rattle.palm_arena.specs.Leaves.{LeafPlace, leaves_at}
 use Rattle.palm_route.specs.Edits.{EditsPrefix}
-use Rattle.palm_route.specs.Parts.{lows_of, list_keys, front_keys, parts_by_keys, parts_of_call, parts_of}
-use Rattle.palm_route.specs.declared.part.Ask.TheVariants as ask
+use Rattle.palm_route.specs.Parts.{lows_of, parts_of}
 use Rattle.palm_route.proofs.Ascents.{Ascends, first_low}
 use Rattle.palm_route.proofs.Descents.{tree_ascends, leaves_rise}
-use Rattle.palm_leaf.specs.Routed.{HasKey}
 use Rattle.palm_leaf.proofs.LeavesAnswer.{the_leaves_answer}
 use Rattle.palm_batch.specs.Passing.{IsTree, answers_at}
 use Rattle.palm_batch.specs.Replies.{AreAnswers}
 use Rattle.palm_batch.proofs.ClosedTrees.{tree_table}
-use Rattle.palm_batch.proofs.PassedTrees.{tree_there}
-
--- The edits among the parts of a batch go by the keys of prefixes.
-looks_keyed : (entry i : ℕ) (keys : List ℕ) → AllByRecursion HasKey (parts_by_keys entry i ask.Look keys)
-looks_keyed entry i [] = tt
-looks_keyed entry i (k ∷ keys) = (tt, looks_keyed entry (suc i) keys)
-
-lists_keyed : (entry i : ℕ) (from to : List ℕ) (limit : ℕ) (keys : List ℕ) → AllByRecursion HasKey (parts_by_keys entry i (ask.List from to limit) keys)
-lists_keyed entry i from to limit [] = tt
-lists_keyed entry i from to limit (k ∷ keys) = (tt, lists_keyed entry (suc i) from to limit keys)
-
-call_keyed : (places : List LeafPlace) (entry : ℕ) (call : Call) → EditsPrefix call → AllByRecursion HasKey (parts_of_call places entry call)
-call_keyed places entry (Set prefix rate) is = (is_key (key prefix) prefix is refl, tt)
-call_keyed places entry (Del prefix) is = (is_key (key prefix) prefix is refl, tt)
-call_keyed places entry (Get prefix) is = (tt, tt)
-call_keyed places entry (Rate number) is = looks_keyed entry 0 (front_keys number)
-call_keyed places entry (Listing from to limit) is = lists_keyed entry 0 from to limit (list_keys (key from) (key to) (lows_of places))
-
-all_keyed : (places : List LeafPlace) (first : ℕ) (entries : List Entry) → AllByRecursion (λ entry. EditsPrefix entry.call) entries → AllByRecursion HasKey (parts_of places first entries)
-all_keyed places first [] edits = tt
-all_keyed places first (entry ∷ entries) edits =
-    every_append HasKey (parts_of_call places first entry.call) (parts_of places (suc first) entries) (call_keyed places first entry.call edits.0) (all_keyed places (suc first) entries edits.1)
+use Rattle.palm_batch.proofs.PassedTrees.{tree_there, parts_have_keys}
 
 lows_begin : (high : ℕ) (places : List LeafPlace) → Ascends 0 high places → lows_of places ≡ 0 ∷ drop 1 (lows_of places)
 lows_begin high [] up = absurd up
@@ -62,5 +34,5 @@ leaves_answer_batch nodes shape tree batch is edits =
       rise = leaves_rise nodes shape there;
       table = tree_table tree is.lawful;
       prefixes = prefixes_in tree.0 tree.1 is.lows;
-      are = the_leaves_answer nodes shape tree (parts_of places 0 batch) is.reads-as is.lawful (all_keyed places 0 batch edits);
+      are = the_leaves_answer nodes shape tree (parts_of places 0 batch) is.reads-as is.lawful (parts_have_keys places 0 batch edits);
     }

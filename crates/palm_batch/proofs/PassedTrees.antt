@@ -6,18 +6,18 @@ use Rattle.std.proofs.Math.Nat.{mul-le-mul_left, mul-le-mul_right, mul-add, le_t
 use Rattle.std.proofs.lemmas.Bool.{lt-ltb, le-ltb, lt-leb, le-leb, cases_lt}
 use Rattle.std.proofs.lemmas.List.Filters.{length-filter_both}
 use Rattle.std.proofs.lemmas.List.Sums.{sum_by-append}
-use Rattle.palm_base.specs.Key.{IsKey, key}
+use Rattle.palm_base.specs.Key.{key}
 use Rattle.palm_base.specs.Lawful.{IsLawful}
 use Rattle.palm_base.specs.Lows.{LowsAreKeys}
 use Rattle.palm_base.specs.Pass.{passed_tree, orphans_of}
-use Rattle.palm_base.specs.Prefix.{IsPrefix}
 use Rattle.palm_base.specs.Tree.{Tree}
 use Rattle.palm_base.specs.declared.call.Call.{Call}
 use Rattle.palm_base.specs.declared.call.Call.TheVariants as call
 use Rattle.palm_base.specs.declared.call.Entry.{Entry}
 use Rattle.palm_base.specs.declared.row.Row.{Row}
 use Rattle.palm_base.proofs.Batches.{pass_keeps_law}
-use Rattle.palm_base.proofs.Keys.{digits_of-key}
+use Rattle.palm_base.proofs.Every.{every_append}
+use Rattle.palm_base.proofs.Keys.{is_key}
 use Rattle.palm_base.proofs.Lows.{passed_keys}
 use Rattle.palm_node.specs.declared.change.Changes.{Changes}
 use Rattle.palm_node.specs.declared.id.NodeId.{NodeId}
@@ -47,27 +47,21 @@ use Rattle.palm_batch.specs.Passing.{IsTree, edits_in, parts_at, groups_at}
 
 -- ---- the keys of parts
 
-key_is_key : (prefix : List ℕ) → IsPrefix prefix → IsKey (key prefix)
-key_is_key prefix is = record { prefix = subst IsPrefix (sym (digits_of-key prefix is)) is; whole = ap key (digits_of-key prefix is) }
-
 by_keys : (entry number : ℕ) (what : Ask) (keys : List ℕ) → ((k : ℕ) → GoesByKey k what) → AllByRecursion HasKey (parts_by_keys entry number what keys)
 by_keys entry number what [] goes = tt
 by_keys entry number what (k ∷ keys) goes = (goes k, by_keys entry (suc number) what keys goes)
 
-keys_join : (xs ys : List Part) → AllByRecursion HasKey xs → AllByRecursion HasKey ys → AllByRecursion HasKey (xs ++ ys)
-keys_join [] ys a b = b
-keys_join (x ∷ xs) ys a b = (a.0, keys_join xs ys a.1 b)
-
 call_keys : (places : List LeafPlace) (entry : ℕ) (one : Call) → EditsPrefix one → AllByRecursion HasKey (parts_of_call places entry one)
-call_keys places entry (call.Set prefix rate) is = (key_is_key prefix is, tt)
-call_keys places entry (call.Del prefix) is = (key_is_key prefix is, tt)
+call_keys places entry (call.Set prefix rate) is = (is_key (key prefix) prefix is refl, tt)
+call_keys places entry (call.Del prefix) is = (is_key (key prefix) prefix is refl, tt)
 call_keys places entry (call.Get prefix) is = (tt, tt)
 call_keys places entry (call.Rate number) is = by_keys entry 0 ask.Look (front_keys number) (λ k. tt)
 call_keys places entry (call.List from to limit) is = by_keys entry 0 (ask.List from to limit) (list_keys (key from) (key to) (lows_of places)) (λ k. tt)
 
-parts_have_keys : (places : List LeafPlace) (first : ℕ) (batch : List Entry) → AllByRecursion (λ entry. EditsPrefix entry.call) batch → AllByRecursion HasKey (parts_of places first batch)
+-- The edits among the parts of a batch go by the keys of prefixes.
+pub parts_have_keys : (places : List LeafPlace) (first : ℕ) (batch : List Entry) → AllByRecursion (λ entry. EditsPrefix entry.call) batch → AllByRecursion HasKey (parts_of places first batch)
 parts_have_keys places first [] is = tt
-parts_have_keys places first (entry ∷ batch) is = keys_join (parts_of_call places first entry.call) (parts_of places (suc first) batch) (call_keys places first entry.call is.0) (parts_have_keys places (suc first) batch is.1)
+parts_have_keys places first (entry ∷ batch) is = every_append HasKey (parts_of_call places first entry.call) (parts_of places (suc first) batch) (call_keys places first entry.call is.0) (parts_have_keys places (suc first) batch is.1)
 
 -- ---- how the pass begins
 
