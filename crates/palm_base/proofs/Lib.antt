@@ -7,6 +7,7 @@ pub mod Cuts
 pub mod EmptyTree
 pub mod Every
 pub mod Examples
+pub mod Filters
 pub mod FromKey
 pub mod FrontSearch
 pub mod Fronts

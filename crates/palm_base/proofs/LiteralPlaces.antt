@@ -9,19 +9,9 @@ use Rattle.palm_base.specs.Pass.{edit_key, goes_left, goes_right, Outcome, joine
 use Rattle.palm_base.specs.Literal.{has_low, last_place, by_place, LowsRise}
 use Rattle.palm_base.specs.FurtherLaws.{EditsGoByPlace}
 use Rattle.palm_base.specs.declared.call.Call.{Call}
+use Rattle.palm_base.proofs.Filters.{filter_both}
 
 -- ---- tests
-
--- A list filtered twice is filtered by both tests.
-filter_twice : {X : Type 0} (both first second : X → Bool) → ((x : X) → both x ≡ (first x && second x)) → (xs : List X)
-    → filter both xs ≡ filter second (filter first xs)
-filter_twice both first second agree [] = refl
-filter_twice both first second agree (x ∷ xs) = rw (agree x, filter_twice both first second agree xs) (by (first x) (second x) refl)
-  where
-    by : (a b : Bool) → second x ≡ b
-        → cond (a && b) (x ∷ filter second (filter first xs)) (filter second (filter first xs)) ≡ filter second (cond a (x ∷ filter first xs) (filter first xs))
-    by true b is = rw is refl
-    by false b is = refl
 
 filter_always : {X : Type 0} (test : X → Bool) → ((x : X) → test x ≡ true) → (xs : List X) → filter test xs ≡ xs
 filter_always test passes [] = refl
@@ -64,7 +54,7 @@ places_shift : (n : ℕ) (go : ℕ → Subtree n → List Call → Outcome n) (p
 places_shift n go place_of later_of goes_on shift i [] edits = refl
 places_shift n go place_of later_of goes_on shift i (child ∷ children) edits =
     rw (
-      filter_twice (λ edit. place_of edit == i + 1) goes_on (λ edit. later_of edit == i) (shift i) edits,
+      filter_both (λ edit. place_of edit == i + 1) goes_on (λ edit. later_of edit == i) (shift i) edits,
       places_shift n go place_of later_of goes_on shift (i + 1) children edits,
     ) refl
 

@@ -91,7 +91,8 @@ module _ (f : Row → ℕ) where
   base_keeps zero h rows edits root = leaves_keep 0 (after_all rows edits)
   base_keeps (suc n) h children edits root = below_keeps n (pass_keeps n) 0 h children edits root.2 (let sizes = root.0 in omega arith)
 
-calls_keep : (rows : List Row) (calls : List Call) → IsTable rows → IsTable (after_all rows calls)
+-- Calls one after another leave a table.
+pub calls_keep : (rows : List Row) (calls : List Call) → IsTable rows → IsTable (after_all rows calls)
 calls_keep rows [] table = table
 calls_keep rows (call ∷ calls) table = calls_keep (after rows call) calls (calls_keep_tables rows call table)
 

@@ -12,6 +12,7 @@ use Rattle.palm_base.specs.declared.row.Row.{Row}
 use Rattle.palm_base.specs.declared.call.Call.TheVariants.{List as Listing}
 use Rattle.palm_base.specs.declared.call.Reply.TheVariants.{Rows}
 use Rattle.palm_base.proofs.Every.{every_weaker, every_filter}
+use Rattle.palm_base.proofs.Filters.{filter_both}
 use Rattle.palm_base.proofs.TableSplits.{From}
 use Rattle.palm_base.proofs.Tables.{filter_keeps}
 use Rattle.palm_tree.proofs.Limits.{one_more}
@@ -77,16 +78,6 @@ first_range low k lows rows less = rw (lt-ltb k low less) (filter_on _ (λ row. 
     each : (rows : List Row) → AllByRecursion (λ row. eqb (range_of (low ∷ lows) (row_key row)) 0 ≡ ltb (row_key row) low) rows
     each [] = tt
     each (row ∷ rows) = (same (ltb (row_key row) low) (range_of lows (row_key row)), each rows)
-
--- A test that is two tests.
-filter_both : {X : Type 0} (both first second : X → Bool) → ((x : X) → both x ≡ (first x && second x)) → (xs : List X) → filter both xs ≡ filter second (filter first xs)
-filter_both both first second same [] = refl
-filter_both {X} both first second same (x ∷ xs) = rw (same x) (by (first x) (second x) refl (filter_both both first second same xs))
-  where
-    by : (b c : Bool) → second x ≡ c → filter both xs ≡ filter second (filter first xs) → cond (b && c) (x ∷ filter both xs) (filter both xs) ≡ filter second (cond b (x ∷ filter first xs) (filter first xs))
-    by true true is rest = rw is (ap (λ (l : List X). x ∷ l) rest)
-    by true false is rest = rw is rest
-    by false c is rest = rest
 
 -- The test of the rows in the range of a key.
 abbrev in_range : List ℕ → ℕ → Row → Bool

@@ -3,7 +3,7 @@ use Rattle.std.proofs.Common.{◌≡◌, ℕ, zero, suc, ◌+◌, ◌≤◌, Boo
 use Rattle.std.specs.List.{flat_map, AllByRecursion}
 use Rattle.std.specs.List.Sorted.{IsPermutation}
 use Rattle.std.proofs.lemmas.List.{append-nil}
-use Rattle.palm_base.specs.Table.{after, after_all, IsTable}
+use Rattle.palm_base.specs.Table.{after_all}
 use Rattle.palm_base.specs.Tree.{Subtree, Tree}
 use Rattle.palm_base.specs.Pass.{Outcome, below, base_pass, leaves_of, top, top_in, passed_tree}
 use Rattle.palm_base.specs.Lawful.{next_low, InOrder, Root}
@@ -12,7 +12,7 @@ use Rattle.palm_base.specs.declared.call.Call.{Call}
 use Rattle.palm_base.proofs.Batches.{highest, adds_below, root_wider}
 use Rattle.palm_base.proofs.Passes.{pass_holds, below_holds}
 use Rattle.palm_base.proofs.RisingTables.{rising_is_table}
-use Rattle.palm_base.proofs.Tables.{calls_keep_tables}
+use Rattle.palm_base.proofs.PassCounts.{calls_keep}
 use Rattle.palm_base.proofs.Builds.{leaf_top, top_few}
 use Rattle.palm_base.proofs.SoundNodes.{node_over_same}
 use Rattle.palm_base.specs.declared.bounds.TheConstants.{MOST_CHILDREN}
@@ -136,10 +136,6 @@ inner_held p nodes changes at =
 
 -- ---- a root leaf
 
-edits_keep_tables : (rows : List Row) (edits : List Call) → IsTable rows → IsTable (after_all rows edits)
-edits_keep_tables rows [] table = table
-edits_keep_tables rows (edit ∷ edits) table = edits_keep_tables (after rows edit) edits (calls_keep_tables rows edit table)
-
 leaf_lawful : (p : Pass) (nodes : NodeId → Option Node) (changes : Changes) (at : LeafRoot p nodes changes) → IsPass p → (high : ℕ) × Root zero high at.root.place.1
 leaf_lawful p nodes changes at is = subst (λ (t : PlacedTree). (high : ℕ) × Root t.0 high (value_in t.0 t.1.1)) (sym at.tree-is) is.lawful
 
@@ -170,7 +166,7 @@ pieces_make p nodes changes at is result own right still = by (is_hit touched ze
     by true hit =
         let pieces : values zero result.pieces ≡ leaves_of 0 (after_all rows p.edits) =
         right hit ∙ ap (λ (s : Site zero). leaves_of 0 (after_all s.place.1 s.edits)) own ∙ ap (λ es. leaves_of 0 (after_all rows es)) at.edits-are in
-        (ap (top zero) pieces, subst (IsOrderly zero) (sym pieces) (leaves_orderly (after_all rows p.edits) (edits_keep_tables rows p.edits (rising_is_table 0 lawful.0 rows lawful.1.1))))
+        (ap (top zero) pieces, subst (IsOrderly zero) (sym pieces) (leaves_orderly (after_all rows p.edits) (calls_keep rows p.edits (rising_is_table 0 lawful.0 rows lawful.1.1))))
     by false hit =
         let same : after_all rows p.edits ≡ rows = leaf_still p nodes changes at is (ap (λ (s : Site zero). touched s.place.0) (sym own) ∙ hit) in
         let pieces : values zero result.pieces ≡ (result.site.low, rows) ∷ [] = ap (values zero) (still hit) ∙ ap (λ (s : Site zero). (result.site.low, s.place.1) ∷ []) own in
