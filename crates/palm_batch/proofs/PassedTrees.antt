@@ -1,5 +1,5 @@
 -- A pass over the parts of a batch: how it begins, and that the tree after it stands alone again.
-use Rattle.std.proofs.Common.{◌≡◌, ℕ, suc, ◌<◌, ◌≤◌, ◌+◌, ◌-◌, ◌*◌, ◌⊎◌, inl, inr, not, ltb, leb, List, [], ◌∷◌, ◌++◌, length, refl, sym, ap, ◌∙◌, subst, append_assoc, arith}
+use Rattle.std.proofs.Common.{◌≡◌, ℕ, suc, ◌<◌, ◌≤◌, ◌+◌, ◌-◌, ◌*◌, ◌⊎◌, inl, inr, not, ltb, leb, List, [], ◌∷◌, ◌++◌, length, refl, sym, ap, ◌∙◌, subst, arith}
 use Rattle.std.specs.Prelude.{Option}
 use Rattle.std.specs.List.{filter, flat_map, AllByRecursion}
 use Rattle.std.proofs.Math.Nat.{mul-le-mul_left, mul-le-mul_right, mul-add, le_trans}
@@ -23,13 +23,13 @@ use Rattle.palm_node.specs.declared.change.Changes.{Changes}
 use Rattle.palm_node.specs.declared.id.NodeId.{NodeId}
 use Rattle.palm_node.specs.declared.node.Node.{Node}
 use Rattle.palm_arena.specs.declared.shape.Shape.{Shape}
-use Rattle.palm_arena.specs.Cells.{Cell, Owns, SameCells}
+use Rattle.palm_arena.specs.Cells.{Cell, Owns}
 use Rattle.palm_arena.specs.Leaves.{LeafPlace, leaves_at}
 use Rattle.palm_arena.specs.Passes.{Pass, Begins, StandsAt, IsRepaired, outcome_of}
 use Rattle.palm_arena.specs.Placed.{PlacedTree, cells_of, value_of}
 use Rattle.palm_arena.specs.Reads.{HasTree, ReadsAs}
 use Rattle.palm_arena.specs.Standing.{kept_cells}
-use Rattle.palm_arena.proofs.CellLists.{owned_same, same_append, same_eq, same_swap, same_trans, same_pass}
+use Rattle.palm_arena.proofs.CellLists.{owned_same, same_pass}
 use Rattle.palm_arena.proofs.OwnedTrees.{owned_reads, owned_whole, whole_owns}
 use Rattle.palm_route.specs.Edits.{EditsPrefix, edits_of}
 use Rattle.palm_route.specs.Groups.{groups_of, group_at}

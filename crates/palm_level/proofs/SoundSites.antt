@@ -1,5 +1,5 @@
 -- In a lawful tree each node below the root is sound, and the edits that go to it put rows within its bounds.
-use Rattle.std.proofs.Common.{◌≡◌, ◌<◌, ℕ, zero, suc, List, [], ◌∷◌, map, refl, sym, ap, ◌∙◌, arith, subst}
+use Rattle.std.proofs.Common.{◌<◌, ℕ, zero, suc, List, [], ◌∷◌, map, sym, ap, ◌∙◌, arith, subst}
 use Rattle.std.specs.List.{filter, AllByRecursion}
 use Rattle.palm_base.specs.Tree.{Subtree}
 use Rattle.palm_base.specs.Pass.{Outcome, goes_right}
