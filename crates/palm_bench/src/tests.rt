@@ -1,7 +1,9 @@
 // What words plan, and that the replies to a run are those of an ordinary map, however it is cut.
 use super::*;
 use std::alloc::{AllocError, Global};
+use std::process::Abort;
 use std::test::Fail;
+use std::thread::Threads;
 
 fn given(alloc: Global, texts: &[&str]) -> Result<Vec<String>, AllocError> {
     texts
@@ -30,24 +32,35 @@ fn words_of_another_form_plan_nothing(rt: HostRuntime) -> Result<(), Fail> {
     Ok(())
 }
 
+// A run of 300 calls of a kind leaves so many rows and has this sum, however it is cut and whoever works.
+fn gives<R: Threads + Sync + Abort>(
+    rt: &R,
+    alloc: Global,
+    kind: &str,
+    rows: u64,
+    sum: u64,
+) -> Result<(), Fail> {
+    for (batch, workers) in [("1", "1"), ("7", "3"), ("64", "1"), ("300", "64")] {
+        let texts = given(alloc, &[kind, "300", batch, workers])?;
+        let plan = words::read(&texts).expect(rt, "a plan");
+        let outcome = run::<R, Brand>(rt, alloc, plan, Blank::new(1))?;
+        assert_eq!(rt; outcome.rows, rows, "{kind} in batches of {batch}");
+        assert_eq!(rt; outcome.sum, sum, "{kind} in batches of {batch}");
+    }
+    Ok(())
+}
+
 // The sums are those that bench/map.rs prints.
 #[test]
 fn every_cutting_gives_the_replies_of_an_ordinary_map(rt: HostRuntime) -> Result<(), Fail> {
-    let cases = [
+    for (kind, rows, sum) in [
         ("load", 300, 0x03b8_ad66_bcfe_5ac0),
         ("sets", 413, 0xb336_4e00_4587_eb83),
         ("edits", 300, 0xe486_6efa_23d6_0116),
         ("gets", 300, 0x7629_f06c_0ca1_2a08),
         ("rates", 300, 0x9b95_566b_2af4_e9c0),
-    ];
-    for (kind, rows, sum) in cases {
-        for (batch, workers) in [("1", "1"), ("7", "3"), ("64", "1"), ("300", "64")] {
-            let texts = given(rt.alloc(), &[kind, "300", batch, workers])?;
-            let plan = words::read(&texts).expect(&rt, "a plan");
-            let outcome = run::<_, Brand>(&rt, rt.alloc(), plan, Blank::new(1))?;
-            assert_eq!(rt; outcome.rows, rows, "{kind} in batches of {batch}");
-            assert_eq!(rt; outcome.sum, sum, "{kind} in batches of {batch}");
-        }
+    ] {
+        gives(&rt, rt.alloc(), kind, rows, sum)?;
     }
     Ok(())
 }

@@ -116,6 +116,15 @@ fn rates_and_lists_are_served(rt: HostRuntime) -> Result<(), Fail> {
     Ok(())
 }
 
+// The texts behind one another.
+fn joined(alloc: Global, texts: &[&str]) -> Result<String, Fail> {
+    let mut all = String::new(alloc);
+    for text in texts {
+        all.push_str(text)?;
+    }
+    Ok(all)
+}
+
 // Sections, and the dumps that a line or an option asks for.
 #[test]
 fn cuts_and_dumps(rt: HostRuntime) -> Result<(), Fail> {
@@ -126,43 +135,26 @@ fn cuts_and_dumps(rt: HostRuntime) -> Result<(), Fail> {
     let empty = "tree 1 0\nleaf 0\n";
     let first = "0 0 new\n1 5 value 1\n= 2\n";
     let second = "2 0 gone 1\n3 5 absent\n= 2\n";
+    let single = "0 0 new\n= 1\n1 5 value 1\n= 1\n2 0 gone 1\n= 1\n3 5 absent\n= 1\n";
     let set = "0 0 new\n= 1\n";
-    for (options, script, transcript) in [
-        ("--dump=none", "", "end 0 0\n"),
-        ("--dump=end", "", &format!(in alloc; "{empty}end 0 0\n")?),
-        ("--dump=all", "", "end 0 0\n"),
-        (
-            "--dump=none",
-            one,
-            &format!(in alloc; "{set}{shape}{shape}end 1 1\n")?,
-        ),
-        (
-            "--dump=end",
-            one,
-            &format!(in alloc; "{set}{shape}{shape}{shape}end 1 1\n")?,
-        ),
-        (
-            "--dump=all",
-            one,
-            &format!(in alloc; "{set}{shape}{shape}{shape}end 1 1\n")?,
-        ),
-        (
-            "--dump=none",
-            two,
-            &format!(in alloc; "{first}{second}end 4 0\n")?,
-        ),
+    let cases: [(&str, &str, &[&str]); 9] = [
+        ("--dump=none", "", &["end 0 0\n"]),
+        ("--dump=end", "", &[empty, "end 0 0\n"]),
+        ("--dump=all", "", &["end 0 0\n"]),
+        ("--dump=none", one, &[set, shape, shape, "end 1 1\n"]),
+        ("--dump=end", one, &[set, shape, shape, shape, "end 1 1\n"]),
+        ("--dump=all", one, &[set, shape, shape, shape, "end 1 1\n"]),
+        ("--dump=none", two, &[first, second, "end 4 0\n"]),
         (
             "--dump=all",
             two,
-            &format!(in alloc; "{first}{shape}{second}{empty}end 4 0\n")?,
+            &[first, shape, second, empty, "end 4 0\n"],
         ),
-        (
-            "--batch=1",
-            two,
-            "0 0 new\n= 1\n1 5 value 1\n= 1\n2 0 gone 1\n= 1\n3 5 absent\n= 1\nend 4 0\n",
-        ),
-    ] {
-        ends_as(&rt, alloc, &["replay", options], script, 0, transcript, "")?;
+        ("--batch=1", two, &[single, "end 4 0\n"]),
+    ];
+    for (options, script, texts) in cases {
+        let transcript = joined(alloc, texts)?;
+        ends_as(&rt, alloc, &["replay", options], script, 0, &transcript, "")?;
     }
     Ok(())
 }
@@ -184,30 +176,45 @@ fn leaf(alloc: Global, count: u32, from: u32, to: u32) -> Result<String, Fail> {
     Ok(line)
 }
 
+// The Sets of the rows from 10 to 43.
+fn set_lines(alloc: Global) -> Result<String, Fail> {
+    let mut script = String::new(alloc);
+    for row in 10..44u32 {
+        script.push_str(&format!(in alloc; "0 set {row} {row}\n")?)?;
+    }
+    Ok(script)
+}
+
+// The replies to them, and this behind each.
+fn new_lines(alloc: Global, behind: &str) -> Result<String, Fail> {
+    let mut lines = String::new(alloc);
+    for n in 0..34u32 {
+        lines.push_str(&format!(in alloc; "{n} 0 new\n{behind}")?)?;
+    }
+    Ok(lines)
+}
+
+// The lines of the leaves of so many rows, from one to another.
+fn leaf_lines(alloc: Global, leaves: &[(u32, u32, u32)]) -> Result<String, Fail> {
+    let mut lines = String::new(alloc);
+    for (count, from, to) in leaves {
+        lines.push_str(&leaf(alloc, *count, *from, *to)?)?;
+    }
+    Ok(lines)
+}
+
 // The shape of 34 rows depends on the batches, and not on the workers.
 #[test]
 fn batches_shape_the_tree_and_workers_do_not(rt: HostRuntime) -> Result<(), Fail> {
     let alloc = rt.alloc();
-    let mut script = String::new(alloc);
-    let mut together = String::new(alloc);
-    let mut apart = String::new(alloc);
-    for n in 0..34u32 {
-        let p = n + 10;
-        script.push_str(&format!(in alloc; "0 set {p} {p}\n")?)?;
-        together.push_str(&format!(in alloc; "{n} 0 new\n")?)?;
-        apart.push_str(&format!(in alloc; "{n} 0 new\n= 1\n")?)?;
-    }
-    script.push_str("dump\n")?;
-    together.push_str("= 34\ntree 2 34\ninner 3 22 33\n")?;
-    for (count, from, to) in [(12, 10, 21), (11, 22, 32), (11, 33, 43)] {
-        together.push_str(&leaf(alloc, count, from, to)?)?;
-    }
-    apart.push_str("tree 2 34\ninner 3 19 28\n")?;
-    for (count, from, to) in [(9, 10, 18), (9, 19, 27), (16, 28, 43)] {
-        apart.push_str(&leaf(alloc, count, from, to)?)?;
-    }
-    together.push_str("end 34 34\n")?;
-    apart.push_str("end 34 34\n")?;
+    let sets = set_lines(alloc)?;
+    let script = format!(in alloc; "{sets}dump\n")?;
+    let new = new_lines(alloc, "")?;
+    let leaves = leaf_lines(alloc, &[(12, 10, 21), (11, 22, 32), (11, 33, 43)])?;
+    let together = format!(in alloc; "{new}= 34\ntree 2 34\ninner 3 22 33\n{leaves}end 34 34\n")?;
+    let new = new_lines(alloc, "= 1\n")?;
+    let leaves = leaf_lines(alloc, &[(9, 10, 18), (9, 19, 27), (16, 28, 43)])?;
+    let apart = format!(in alloc; "{new}tree 2 34\ninner 3 19 28\n{leaves}end 34 34\n")?;
     for workers in ["--workers=1", "--workers=3", "--workers=64"] {
         ends_as(&rt, alloc, &[workers, "replay"], &script, 0, &together, "")?;
         let one_by_one = ["--batch", "1", workers, "replay"];
@@ -242,23 +249,27 @@ fn texts_are_offered_whole(rt: HostRuntime) -> Result<(), Fail> {
     Ok(())
 }
 
-// 65,536 comments of 1,024 bytes with their ends are as much as is taken.
+// 65,536 comments of 1,024 bytes with their ends, which are as much as is taken, and this behind them.
+fn largest(alloc: Global, behind: &str) -> Result<Vec<u8>, Fail> {
+    let mut line = vec![in alloc; b'#'; 1_023]?;
+    line.push(b'\n')?;
+    let mut bytes = Vec::with_capacity(alloc, MOST_BYTES + 1)?;
+    for _ in 0..65_536 {
+        bytes.extend_from_slice(&line)?;
+    }
+    bytes.extend_from_slice(behind.as_bytes())?;
+    Ok(bytes)
+}
+
 #[test]
 fn the_largest_source(rt: HostRuntime) -> Result<(), Fail> {
     let alloc = rt.alloc();
     let all = words(alloc, &["replay"])?;
-    let mut line = vec![in alloc; b'#'; 1_023]?;
-    line.push(b'\n')?;
     for (more, status, transcript, line_told) in [
         ("", 0, "end 0 0\n", ""),
         ("#", 7, "", "palm: input too long\n"),
     ] {
-        let mut bytes = Vec::with_capacity(alloc, MOST_BYTES + 1)?;
-        for _ in 0..65_536 {
-            bytes.extend_from_slice(&line)?;
-        }
-        bytes.extend_from_slice(more.as_bytes())?;
-        let mut src = SureSource::new(bytes);
+        let mut src = SureSource::new(largest(alloc, more)?);
         let mut out = sink(alloc, 100, None)?;
         let mut err = sink(alloc, 100, None)?;
         let got = run(&rt, alloc, &all, &mut src, &mut out, &mut err);
@@ -271,26 +282,16 @@ fn the_largest_source(rt: HostRuntime) -> Result<(), Fail> {
 
 #[test]
 fn other_words_are_refused(rt: HostRuntime) -> Result<(), Fail> {
-    let alloc = rt.alloc();
-    for line in [
-        "",
-        "Replay",
-        "replay replay",
-        "replay --batch 0",
-        "replay --batch=4 --batch=5",
-        "--help",
-    ] {
-        let mut all = Vec::new(alloc);
-        for text in line.split(' ') {
-            all.push(String::from_str(alloc, text)?)?;
-        }
-        let mut src = SureSource::new(Vec::from_slice(alloc, SMALL.as_bytes())?);
-        let mut out = sink(alloc, 100, None)?;
-        let mut err = sink(alloc, 100, None)?;
-        let got = run(&rt, alloc, &all, &mut src, &mut out, &mut err);
-        assert_eq!(rt; got, 2, "{line}");
-        assert_eq!(rt; out.taken(), b"".as_slice());
-        assert_eq!(rt; err.taken(), b"palm: usage\n".as_slice());
+    let cases: [&[&str]; 6] = [
+        &[""],
+        &["Replay"],
+        &["replay", "replay"],
+        &["replay", "--batch", "0"],
+        &["replay", "--batch=4", "--batch=5"],
+        &["--help"],
+    ];
+    for texts in cases {
+        ends_as(&rt, rt.alloc(), texts, SMALL, 2, "", "palm: usage\n")?;
     }
     Ok(())
 }
