@@ -9,6 +9,7 @@ use Rattle.palm_base.specs.declared.row.Row.{Row}
 use Rattle.palm_deck.specs.Deck.{deck_of, deck_text}
 use Rattle.palm_deck.specs.declared.deck.DeckFault.{DeckFault}
 use Rattle.palm_script.specs.Causes.{Rose}
+use Rattle.palm_script.specs.declared.input.TheConstants.{MOST_BYTES}
 use Rattle.palm_words.specs.declared.settings.Mode.TheVariants.{Deck}
 use Rattle.palm_words.specs.declared.settings.Settings.{Settings}
 use Rattle.palm_cli.specs.Decks.{IsGoodDeck, deck_left}
@@ -23,7 +24,7 @@ use Rattle.palm_cli.specs.declared.status.Status.{Status}
 use Rattle.palm_cli.specs.declared.status.Status.TheVariants.{Done, Usage, BadLine, ReadFault, WriteFault, NoMemory, TooLong, BadRow}
 use Rattle.palm_cli.proofs.Statuses.{stop_ends}
 use Rattle.palm_cli.proofs.Stopped.{stopped_at_once}
-use Rattle.palm_cli.proofs.Wholes.{where_whole}
+use Rattle.palm_cli.proofs.Wholes.{where_whole, where_longer}
 
 -- The table that edits leave of the empty one makes the deck that they leave.
 pub table_text : (tree : Tree) (rows : List Row) (edits : List Entry) → rows ≡ table_after (rows_of tree) edits → tree ≡ (zero, []) → deck_text rows ≡ deck_left edits
@@ -50,9 +51,10 @@ no_deck_ends settings left rest taken before now writes steps (BadLine fault) af
 no_deck_ends settings left rest taken before now writes steps ReadFault after unread = (unread.0, (unread.1.0, unread.1.1, refl))
 no_deck_ends settings left rest taken before now writes steps WriteFault after unread = absurd unread
 no_deck_ends settings left rest taken before now writes steps NoMemory after unread = (unread.0, unread.1, stopped_at_once Deck settings unread.0 rest taken)
-no_deck_ends settings left rest taken before now writes steps TooLong after unread = (unread, refl)
+no_deck_ends settings left rest taken before now writes steps TooLong after unread =
+    (unread, (where_longer MOST_BYTES left rest unread.0 unread.1 unread.2, refl))
 no_deck_ends settings left rest taken before now writes steps (BadRow row why) after unread =
-    (refl, unread.0, (unread.1.0, unread.1.1, stopped_at_once Deck settings unread.1.0 rest taken))
+    (refl, unread.0, unread.1, (unread.2.0, unread.2.1, stopped_at_once Deck settings unread.2.0 rest taken))
 
 -- The edits of a good deck were run, and the table that they leave was written.
 pub deck_ends : (settings : Settings) (o : Outside) (edits : List Entry) (after : Tree) → IsEdits o.left o.rest o.reads_before o.reads_now edits

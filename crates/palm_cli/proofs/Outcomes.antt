@@ -20,7 +20,7 @@ use Rattle.palm_cli.specs.Ends.{Outside, EndsIn}
 use Rattle.palm_cli.specs.Scripts.{IsGoodScript, IsBadScript, IsLongScript, IsCutScript, run_of, tree_said, text_said}
 use Rattle.palm_cli.specs.Costs.{run_cost}
 use Rattle.palm_cli.specs.Stops.{ended_by}
-use Rattle.palm_cli.specs.Streams.{text_to}
+use Rattle.palm_cli.specs.Streams.{text_to, HasReadPast}
 use Rattle.palm_cli.proofs.Fronts.{front_whole}
 use Rattle.palm_cli.proofs.Stopped.{stopped, taken_back, text_read}
 use Rattle.palm_cli.proofs.Wholes.{where_whole, where_read}
@@ -71,21 +71,24 @@ cut_script settings o bytes after ran none = (ran.read.1, (bytes, ran.read.0, re
 longer : (most : ℕ) (bytes more unread : List ℕ) → length bytes ≡ most → length more ≡ 1 → most < length ((bytes ++ more) ++ unread)
 longer most bytes more unread size one = omega (arith, length-append (bytes ++ more) unread, length-append bytes more, size, one)
 
--- The source has a byte too many.
+-- The source has a byte too many, which was read.
 long_script : (settings : Settings) (o : Outside) (bytes : List ℕ) (after : Tree) → Ran settings o bytes Long after → (script_of bytes false).fault ≡ None
-    → IfSome o.left (λ b. IsLongScript settings b o.taken o.now after)
+    → HasReadPast o.left o.rest × IfSome o.left (λ b. IsLongScript settings b o.taken o.now after)
 long_script settings o bytes after ran none =
     let said : Outcome = script_of bytes false in
     let more : List ℕ = ran.read.0 in
-    where_read (λ (b : List ℕ). IsLongScript settings b o.taken o.now after) o.left o.rest (bytes ++ more) ran.read.1 (λ unread.
-    let front : List ℕ = take MOST_BYTES ((bytes ++ more) ++ unread) in
-    let same : script_of front false ≡ said = ap (λ (l : List ℕ). script_of l false) (front_of MOST_BYTES bytes more unread ran.most ran.read.2) in
-    record {
-      size = longer MOST_BYTES bytes more unread ran.read.2 ran.read.3;
-      good = ap (λ (o : Outcome). o.fault) same ∙ none;
-      text = text_of_same settings said (script_of front false) o.taken o.now same ran.text;
-      tree = tree_of_same settings said (script_of front false) after same ran.tree;
-    })
+    let past : MOST_BYTES < length (bytes ++ more) = omega (arith, length-append bytes more, ran.read.2, ran.read.3) in (
+      (bytes ++ more, ran.read.1, past),
+      where_read (λ (b : List ℕ). IsLongScript settings b o.taken o.now after) o.left o.rest (bytes ++ more) ran.read.1 (λ unread.
+          let front : List ℕ = take MOST_BYTES ((bytes ++ more) ++ unread) in
+          let same : script_of front false ≡ said = ap (λ (l : List ℕ). script_of l false) (front_of MOST_BYTES bytes more unread ran.most ran.read.2) in
+          record {
+            size = longer MOST_BYTES bytes more unread ran.read.2 ran.read.3;
+            good = ap (λ (o : Outcome). o.fault) same ∙ none;
+            text = text_of_same settings said (script_of front false) o.taken o.now same ran.text;
+            tree = tree_of_same settings said (script_of front false) after same ran.tree;
+          }),
+    )
 
 -- ---- a line has a fault
 

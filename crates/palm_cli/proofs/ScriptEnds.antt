@@ -1,5 +1,5 @@
 -- How the mode `replay` ends, by what was read of its script and whether all of that was run.
-use Rattle.std.proofs.Common.{◌≡◌, ℕ, ◌+◌, ◌≤◌, Bool, List, [], length, Option, sym, ap, subst, ◌∙◌, arith}
+use Rattle.std.proofs.Common.{◌≡◌, ℕ, ◌+◌, ◌≤◌, Bool, List, [], length, Option, Some, None, refl, sym, ap, subst, ◌∙◌, arith}
 use Rattle.std.specs.Prelude.{◌&&◌, is_none}
 use Rattle.std.specs.Io.KnownBytes.{Appends}
 use Rattle.palm_base.specs.Tree.{Tree}
@@ -10,6 +10,7 @@ use Rattle.palm_script.specs.Laws.{FaultsStand}
 use Rattle.palm_script.specs.Script.{Outcome, Says, script_of, entries_from}
 use Rattle.palm_script.specs.Transcript.{Section, sections_by, after_run}
 use Rattle.palm_script.specs.declared.input.InputEnd.{InputEnd}
+use Rattle.palm_script.specs.declared.input.InputEnd.TheVariants.{Whole, Failed, Long}
 use Rattle.palm_script.specs.declared.input.TheConstants.{MOST_BYTES}
 use Rattle.palm_script.specs.declared.line.LineFault.{LineFault}
 use Rattle.palm_script.specs.declared.script.Script.{Script}
@@ -18,6 +19,7 @@ use Rattle.palm_words.specs.declared.settings.Settings.{Settings}
 use Rattle.palm_cli.specs.Costs.{run_cost}
 use Rattle.palm_cli.specs.Ends.{Outside, EndsIn}
 use Rattle.palm_cli.specs.Scripts.{run_of}
+use Rattle.palm_cli.specs.Statuses.{is_done}
 use Rattle.palm_cli.specs.Stops.{ended_by, status_of}
 use Rattle.palm_cli.specs.Streams.{AppendsFront, text_to}
 use Rattle.palm_cli.specs.declared.stop.Stop.{Stop}
@@ -25,6 +27,15 @@ use Rattle.palm_cli.specs.declared.stop.Stop.TheVariants.{Write}
 use Rattle.palm_cli.proofs.Outcomes.{Ran, run_ends}
 use Rattle.palm_cli.proofs.Statuses.{stop_ends}
 use Rattle.palm_cli.proofs.Stopped.{stopped, text_read}
+
+-- All went well where the script has no faulty line and its source was read to its end.
+pub finished_by : (fault : Option LineFault) (end : InputEnd) → is_done (ended_by fault end) ≡ (is_whole end && is_none fault)
+finished_by (Some fault) Whole = refl
+finished_by (Some fault) Failed = refl
+finished_by (Some fault) Long = refl
+finished_by None Whole = refl
+finished_by None Failed = refl
+finished_by None Long = refl
 
 -- The run of a script that was read, by the entries and the ends that it has.
 abbrev pub run_read : Settings → Script → List Section

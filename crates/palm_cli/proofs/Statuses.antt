@@ -1,7 +1,7 @@
 -- What an exit status says, by how the program ended.
 use Rattle.std.proofs.Common.{◌≡◌, ℕ, zero, suc, ◌<◌, ◌^◌, ◌-◌, ◌⊎◌, inl, inr, true, List, [], Option, Some, None, refl, sym, ap, subst, arith}
 use Rattle.std.specs.Prelude.{IfSome}
-use Rattle.std.specs.Io.KnownBytes.{Consumes}
+use Rattle.std.specs.Io.KnownBytes.{Consumes, IsAtEnd}
 use Rattle.std.proofs.KnownBytes.{Consumes-nil}
 use Rattle.palm_base.specs.Tree.{Tree}
 use Rattle.palm_deck.specs.declared.deck.DeckWhy.{DeckWhy}
@@ -15,6 +15,7 @@ use Rattle.palm_cli.specs.Ends.{Outside, HasStopped, IsReadWhole, IsDone, TookFe
 use Rattle.palm_cli.specs.Scripts.{IsBadScript}
 use Rattle.palm_cli.specs.Statuses.{code_of, names_fault}
 use Rattle.palm_cli.specs.Stops.{status_of}
+use Rattle.palm_cli.specs.Streams.{HasReadPast}
 use Rattle.palm_cli.specs.declared.stop.Stop.{Stop}
 use Rattle.palm_cli.specs.declared.stop.Stop.TheVariants as stops
 use Rattle.palm_cli.specs.declared.status.Status.{Status}
@@ -49,7 +50,7 @@ memory_ends (Some settings) left taken reads writes steps after = ([], Consumes-
 refused_line : (settings : Settings) (status : Status) (o : Outside) (after : Tree)
     → names_fault status ≡ true → EndsAs settings status o after → EndsAs settings NoMemory o after
 refused_line settings (BadLine fault) o after names ended = ended.2
-refused_line settings (BadRow row why) o after names ended = ended.2
+refused_line settings (BadRow row why) o after names ended = ended.3
 refused_line settings Done o after names ended = cc
 refused_line settings Usage o after names ended = cc
 refused_line settings ReadFault o after names ended = cc
@@ -156,21 +157,22 @@ write_ended found status o after ended code =
     let end = ended_as WriteFault found status o after (λ e. omega (arith, e)) (λ e. omega (arith, e)) (is_of_code 5 status code) ended in
     (end.end.0, where_some _ found end.settings end.form end.end.1)
 
--- 7: the source has too many bytes.
+-- 7: the source has too many bytes, of which more were read than are taken.
 pub long_ended : (found : Option Settings) (status : Status) (o : Outside) (after : Tree) → HasEnded found status o after → code_of status ≡ 7
-    → IfSome found (λ settings. IsLong settings.mode settings o.left o.taken o.now after)
+    → HasReadPast o.left o.rest × IfSome found (λ settings. IsLong settings.mode settings o.left o.taken o.now after)
 long_ended found status o after ended code =
     let end = ended_as TooLong found status o after (λ e. omega (arith, e)) (λ e. omega (arith, e)) (is_of_code 7 status code) ended in
-    where_some _ found end.settings end.form end.end
+    (end.end.0, where_some _ found end.settings end.form end.end.1)
 
--- 8: the deck's first faulty record.
+-- 8: the deck's first faulty record, of a deck that was read to its end.
 pub row_ended : (found : Option Settings) (status : Status) (o : Outside) (after : Tree) → HasEnded found status o after → code_of status ≡ 8
-    → (row : ℕ) × (why : DeckWhy) × (status ≡ BadRow row why) × IfSome found (λ settings. (settings.mode ≡ Deck) × IfSome o.left (λ b. IsBadDeck b row why))
+    → (row : ℕ) × (why : DeckWhy) × (status ≡ BadRow row why)
+    × IfSome found (λ settings. (settings.mode ≡ Deck) × IfSome o.left (λ b. IsBadDeck b row why) × IsAtEnd o.rest)
 row_ended found status o after ended code =
     let bad : (row : ℕ) × (why : DeckWhy) × (status ≡ BadRow row why) = is_of_code 8 status code in
     let end = ended_as (BadRow bad.0 bad.1) found status o after (λ e. omega (arith, e)) (λ e. omega (arith, e)) bad.2 ended in
-    let Bad : Settings → Type 0 = λ settings. (settings.mode ≡ Deck) × IfSome o.left (λ b. IsBadDeck b bad.0 bad.1) in
-    let said : Bad end.settings = (end.end.0, end.end.1) in
+    let Bad : Settings → Type 0 = λ settings. (settings.mode ≡ Deck) × IfSome o.left (λ b. IsBadDeck b bad.0 bad.1) × IsAtEnd o.rest in
+    let said : Bad end.settings = (end.end.0, end.end.1, end.end.2) in
     (bad.0, bad.1, bad.2, where_some Bad found end.settings end.form said)
 
 -- 5 or 6: the run was stopped, by a fault of the sink or for want of memory.
@@ -221,7 +223,7 @@ ended_unfailed settings (BadLine fault) o after ended r0 r1 w0 w1 = subst (λ (m
 ended_unfailed settings ReadFault o after ended r0 r1 w0 w1 = absurd (omega (arith, ended.0, r0, r1))
 ended_unfailed settings WriteFault o after ended r0 r1 w0 w1 = absurd (omega (arith, ended.0, w0, w1))
 ended_unfailed settings NoMemory o after ended r0 r1 w0 w1 = memory_in settings.mode
-ended_unfailed settings TooLong o after ended r0 r1 w0 w1 = long_in settings.mode settings o.left o.taken o.now after ended
+ended_unfailed settings TooLong o after ended r0 r1 w0 w1 = long_in settings.mode settings o.left o.taken o.now after ended.1
 ended_unfailed settings (BadRow row why) o after ended r0 r1 w0 w1 = subst (λ (m : Mode). EndsUnfailed m 8) (sym ended.0) (inr (inr (inr refl)))
 
 -- Where nothing failed, each mode has its ends.

@@ -18,10 +18,8 @@ where_read P None rest bytes read p = tt
 where_read P (Some b) None bytes read p = absurd read
 where_read P (Some b) (Some r) bytes read p = subst P (sym read) (p r)
 
--- Of a source that has more than so many bytes one more was read.
-pub where_longer : (most : ℕ) (left rest : Option (List ℕ)) (bytes more : List ℕ)
-    → Consumes left rest (bytes ++ more) → length bytes ≡ most → length more ≡ 1 → IfSome left (λ b. most < length b)
-where_longer most None rest bytes more read size one = tt
-where_longer most (Some b) None bytes more read size one = absurd read
-where_longer most (Some b) (Some r) bytes more read size one =
-    omega (arith, ap length read, length-append (bytes ++ more) r, length-append bytes more, size, one)
+-- Where more than so many bytes were read, the source had more than so many.
+pub where_longer : (most : ℕ) (left rest : Option (List ℕ)) (bytes : List ℕ)
+    → Consumes left rest bytes → most < length bytes → IfSome left (λ b. most < length b)
+where_longer most left rest bytes read more =
+    where_read (λ (b : List ℕ). most < length b) left rest bytes read (λ unread. omega (arith, length-append bytes unread, more))

@@ -13,7 +13,7 @@ use Rattle.palm_cli.specs.Costs.{run_cost}
 use Rattle.palm_cli.specs.Decks.{IsGoodDeck, IsBadDeck, IsStoppedDeck}
 use Rattle.palm_cli.specs.Generated.{IsSummed, history_said, summary_said}
 use Rattle.palm_cli.specs.Scripts.{run_of, IsGoodScript, IsBadScript, IsLongScript, IsCutScript, IsStoppedScript}
-use Rattle.palm_cli.specs.Streams.{AppendsFront}
+use Rattle.palm_cli.specs.Streams.{AppendsFront, HasReadPast}
 use Rattle.palm_cli.specs.Tables.{cost_left}
 use Rattle.palm_cli.specs.declared.status.Status.{Status}
 use Rattle.palm_cli.specs.declared.status.Status.TheVariants.{Done, Usage, BadLine, ReadFault, WriteFault, NoMemory, TooLong, BadRow}
@@ -98,9 +98,9 @@ EndsIn mode settings ReadFault o after =
     Rose o.reads_before o.reads_now × ((read : List ℕ) × Consumes o.left o.rest read × IsCutShort mode settings read o.taken o.now after)
 EndsIn mode settings WriteFault o after = Rose o.writes_before o.writes_now × HasStopped mode settings o
 EndsIn mode settings NoMemory o after = HasStopped mode settings o
-EndsIn mode settings TooLong o after = IsLong mode settings o.left o.taken o.now after
+EndsIn mode settings TooLong o after = HasReadPast o.left o.rest × IsLong mode settings o.left o.taken o.now after
 EndsIn mode settings (BadRow row why) o after =
-    (mode ≡ Deck) × IfSome o.left (λ b. IsBadDeck b row why) × HasStopped mode settings o
+    (mode ≡ Deck) × IfSome o.left (λ b. IsBadDeck b row why) × IsAtEnd o.rest × HasStopped mode settings o
 
 -- The same in the mode of the settings.
 abbrev pub EndsAs : Settings → Status → Outside → Tree → Type 0

@@ -1,13 +1,14 @@
 -- How a deck was read.
-use Rattle.std.specs.Prelude.{◌≡◌, ℕ, ◌<◌, ◌≤◌, List, length, IfSome, Ok, Option}
+use Rattle.std.specs.Prelude.{◌≡◌, ℕ, ◌≤◌, List, length, IfSome, Ok, Option}
 use Rattle.std.specs.Io.KnownBytes.{Consumes, IsAtEnd}
 use Rattle.palm_base.specs.declared.call.Entry.{Entry}
 use Rattle.palm_deck.specs.Deck.{deck_of}
 use Rattle.palm_script.specs.Causes.{Rose}
 use Rattle.palm_script.specs.declared.input.TheConstants.{MOST_BYTES}
 use Rattle.palm_cli.specs.Decks.{IsBadDeck}
+use Rattle.palm_cli.specs.Streams.{HasReadPast}
 use Rattle.palm_cli.specs.declared.status.Status.{Status}
-use Rattle.palm_cli.specs.declared.status.Status.TheVariants.{Done, Usage, BadLine, ReadFault, WriteFault, NoMemory, TooLong, BadRow}
+use Rattle.palm_cli.specs.declared.status.Status.TheVariants.{ReadFault, NoMemory, TooLong, BadRow}
 
 -- From a source that had `left` and now has `rest`, where told, with its counts of faults before and now, a good deck was read
 -- to its end, and it says these edits.
@@ -23,13 +24,10 @@ pub record IsEdits (left rest : Option (List ℕ)) (before now : ℕ) (edits : L
 abbrev pub IsReadFrom : (left rest : Option (List ℕ)) → Type 0
 IsReadFrom left rest = (read : List ℕ) × Consumes left rest read
 
--- No good deck was read, and this is why.
+-- No good deck was read, and this is why. One that has a faulty record was read to its end.
 abbrev pub IsNoDeck : (left rest : Option (List ℕ)) (before now : ℕ) → Status → Type 0
-IsNoDeck left rest before now Done = ⊥
-IsNoDeck left rest before now Usage = ⊥
-IsNoDeck left rest before now (BadLine fault) = ⊥
-IsNoDeck left rest before now ReadFault = Rose before now × IsReadFrom left rest
-IsNoDeck left rest before now WriteFault = ⊥
 IsNoDeck left rest before now NoMemory = IsReadFrom left rest
-IsNoDeck left rest before now TooLong = IfSome left (λ b. MOST_BYTES < length b)
-IsNoDeck left rest before now (BadRow row why) = IfSome left (λ b. IsBadDeck b row why) × IsReadFrom left rest
+IsNoDeck left rest before now ReadFault = Rose before now × IsReadFrom left rest
+IsNoDeck left rest before now TooLong = HasReadPast left rest
+IsNoDeck left rest before now (BadRow row why) = IfSome left (λ b. IsBadDeck b row why) × IsAtEnd rest × IsReadFrom left rest
+IsNoDeck left rest before now _ = ⊥

@@ -19,16 +19,16 @@ code_of NoMemory = 6
 code_of TooLong = 7
 code_of (BadRow row why) = 8
 
+-- All went well.
+abbrev pub is_done : Status → Bool
+is_done Done = true
+is_done _ = false
+
 -- The status names a fault of the input. So its line is made anew each time, which may want memory.
 abbrev pub names_fault : Status → Bool
-names_fault Done = false
-names_fault Usage = false
 names_fault (BadLine fault) = true
-names_fault ReadFault = false
-names_fault WriteFault = false
-names_fault NoMemory = false
-names_fault TooLong = false
 names_fault (BadRow row why) = true
+names_fault _ = false
 
 -- A line of the program about itself: so that of "usage" is "palm: usage".
 abbrev pub own_line : List ℕ → List ℕ

@@ -1,6 +1,6 @@
 //! The top call: the words are read, the mode that they set is run, and the error stream is told how it ended.
 ghost use Rattle.std.specs.Prelude.{◌≡◌, ◌+◌, ◌<◌, ◌^◌, ◌-◌, ◌⊎◌, [], map, IfSome, None, string_bytes, List, ℕ};
-ghost use Rattle.std.specs.Io.KnownBytes.{Consumes};
+ghost use Rattle.std.specs.Io.KnownBytes.{Consumes, IsAtEnd};
 ghost use Rattle.std.proofs.Common.{zero};
 ghost use Rattle.palm_base.specs.Lawful.{IsLawful};
 ghost use Rattle.palm_deck.specs.declared.deck.DeckWhy.{DeckWhy};
@@ -13,7 +13,7 @@ ghost use Rattle.palm_cli.specs.Decks.{IsBadDeck};
 ghost use Rattle.palm_cli.specs.Ends.{IsDone, IsReadWhole, TookFew, IsCutShort, IsLong, IsStopped, EndsUnfailed, EndsAs, HasEnded};
 ghost use Rattle.palm_cli.specs.Scripts.{IsBadScript};
 ghost use Rattle.palm_cli.specs.Statuses.{code_of, status_text, line_told, row_told};
-ghost use Rattle.palm_cli.specs.Streams.{Told};
+ghost use Rattle.palm_cli.specs.Streams.{HasReadPast, Told};
 ghost use Rattle.palm_cli.specs.declared.status.Status.{Status};
 
 use crate::deck::deck;
@@ -168,12 +168,14 @@ pub fn palm<R: Threads + Sync, S: Source, O: Sink, E: Sink, G: Gate + Sync, L: L
     // 5 and 6: what was taken begins what all that was read would give.
     ensures stopped { (result ≡ 5) ⊎ (result ≡ 6) → IfSome (settings_of (map string_bytes words.now.items)) (λ settings. (read : List ℕ) × Consumes (S.left src.old) (S.left src.new) read × IsStopped settings.mode settings read (S.left src.new) (O.taken out.old) (O.taken out.new)) }
 
-    // 7: the source has a byte too many. What was taken is the transcript of the lines before, and the tree is theirs.
+    // 7: the source has a byte too many, and one more was read than is taken of it. What was taken is the transcript of the lines
+    // before, and the tree is theirs.
+    ensures past { result ≡ 7 → HasReadPast (S.left src.old) (S.left src.new) }
     ensures long { result ≡ 7 → IfSome (settings_of (map string_bytes words.now.items)) (λ settings. IsLong settings.mode settings (S.left src.old) (O.taken out.old) (O.taken out.new) (tree_in engine.new.tree)) }
 
-    // 8: this is the deck's first faulty record.
+    // 8: the deck was read to its end, and this is its first faulty record.
     ensures bad_row { result ≡ 8 → (row : ℕ) × (why : DeckWhy)
-        × IfSome (settings_of (map string_bytes words.now.items)) (λ settings. (settings.mode ≡ Mode.Deck) × IfSome (S.left src.old) (λ b. IsBadDeck b row why))
+        × IfSome (settings_of (map string_bytes words.now.items)) (λ settings. (settings.mode ≡ Mode.Deck) × IfSome (S.left src.old) (λ b. IsBadDeck b row why) × IsAtEnd (S.left src.new))
         × Told (E.taken err.old) (E.taken err.new) (E.faults err.old) (E.faults err.new) (row_told row why) }
 
     // `gen` reads nothing, and `deck` writes and runs nothing where it ends with 4, 7 or 8.

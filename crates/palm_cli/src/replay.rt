@@ -1,11 +1,10 @@
 // The mode `replay`: a script is read, run in the order of its lines, and its transcript written.
-ghost use Rattle.std.specs.Prelude.{◌≡◌, ◌+◌, ◌≤◌, ◌&&◌, [], is_none, length, sum_by, OnOk, OnErr, IsErrOf};
+ghost use Rattle.std.specs.Prelude.{◌≡◌, ◌+◌, ◌≤◌, [], length, sum_by, OnOk, OnErr, IsErrOf};
 ghost use Rattle.std.specs.Io.KnownBytes.{Appends};
 ghost use Rattle.std.proofs.Common.{zero};
 ghost use Rattle.palm_base.specs.Lawful.{IsLawful};
 ghost use Rattle.palm_tree.specs.TreeValue.{tree_in};
 ghost use Rattle.palm_script.specs.Causes.{Rose};
-ghost use Rattle.palm_script.specs.Input.{is_whole};
 ghost use Rattle.palm_script.specs.Transcript.{after_run, sections_by};
 ghost use Rattle.palm_words.specs.Settings.{AreWithin};
 ghost use Rattle.palm_cli.specs.Costs.{run_cost};
@@ -27,13 +26,6 @@ use palm_words::Settings;
 use std::alloc::Global;
 use std::sync::ledger::Ledger;
 use std::thread::Threads;
-
-// Whether a script is good and its source was read to its end, so that its transcript has an end too.
-fn is_finished(end: InputEnd, script: &Script) -> bool
-    ensures { result ≡ (is_whole end && is_none script.now.fault) }
-{
-    end.is_whole() && script.fault.is_none()
-}
 
 // How the program ends where all was run that was read of a script.
 fn end_by(fault: Option<LineFault>, end: InputEnd) -> Status
@@ -113,11 +105,12 @@ pub fn replay<R: Threads + Sync, S: Source, O: Sink, G: Gate + Sync, L: Ledger>(
     let Ok(script) = read_script(alloc, &input.bytes, input.end.is_whole()) else {
         return Status::NoMemory;
     };
-    let finished = is_finished(input.end, &script);
+    let end = end_by(script.fault, input.end);
+    let finished = end.is_done();
     if let Err(stop) = run_script(
         rt, alloc, settings, engine, &script, finished, out, gate, steps,
     ) {
         return Status::from(stop);
     }
-    end_by(script.fault, input.end)
+    end
 }

@@ -1,6 +1,6 @@
 //! How a run of the program ends: its status, and the line about it on the error stream.
 ghost use Rattle.std.specs.Prelude.{◌≡◌, ◌⊎◌, true, IfOk, string_bytes};
-ghost use Rattle.palm_cli.specs.Statuses.{code_of, names_fault, status_text, line_told, row_told};
+ghost use Rattle.palm_cli.specs.Statuses.{code_of, is_done, names_fault, status_text, line_told, row_told};
 ghost use Rattle.palm_cli.specs.Streams.{Told};
 
 use palm_base::NoMemory;
@@ -49,6 +49,13 @@ impl Status {
             Status::TooLong => 7,
             Status::BadRow { .. } => 8,
         }
+    }
+
+    /// Whether all went well.
+    pub fn is_done(&self) -> bool
+        ensures { result ≡ is_done self.now }
+    {
+        matches!(self, Status::Done)
     }
 }
 

@@ -38,8 +38,11 @@ returns-clause-write g c = λ is. (write_ended _ _ _ _ c.run_and_tell-status.ens
 pub returns-clause-stopped : goal.returns-clause-stopped
 returns-clause-stopped g c = λ is. stop_ended _ _ _ _ c.run_and_tell-status.ensures.end (rw (← c.code.ensures) is)
 
+pub returns-clause-past : goal.returns-clause-past
+returns-clause-past g c = λ is. (long_ended _ _ _ _ c.run_and_tell-status.ensures.end (sym c.code.ensures ∙ is)).0
+
 pub returns-clause-long : goal.returns-clause-long
-returns-clause-long g c = λ is. long_ended _ _ _ _ c.run_and_tell-status.ensures.end (sym c.code.ensures ∙ is)
+returns-clause-long g c = λ is. (long_ended _ _ _ _ c.run_and_tell-status.ensures.end (sym c.code.ensures ∙ is)).1
 
 pub returns-clause-bad_row : goal.returns-clause-bad_row
 returns-clause-bad_row g c = λ is.
