@@ -114,7 +114,7 @@ fn join_all(batch: &[Entry], answers: AnswerList, replies: &mut [Reply]) -> Resu
     requires fit { AllByRecursion (FitsEntry batch.now) answers }
     ensures ok { OnOk result (replies.new ≡ replies_joined 0 batch.now answers) }
 {
-    for answer in answers.into_vec() {
+    for answer in answers.into_list() {
         let place = answer.part.entry as usize;
         join_answer(&batch[place].call, answer, &mut replies[place])?;
     }

@@ -1,65 +1,13 @@
 // What a deck says, and what may be wrong with one. The numbers of its faults are the codes that the program reports.
-ghost use Rattle.std.specs.Prelude.{◌≡◌, ◌==◌, length};
-
-use palm_base::Entry;
+use palm_base::{Entry, ItemList};
 use std::alloc::AllocFailed;
 use std::error::Error;
 use std::fmt;
-use std::marker::Model;
 
 /// What a deck says: the edits of its records, in their order. Contracts see the list.
 ///
 /// They are calls of caller 0, with the places 0, 1, 2 and so on.
-#[derive(Debug, Drop)]
-pub struct Deck {
-    entries: Vec<Entry>,
-}
-
-impl Model for Deck {
-    ghost use Rattle.std.specs.Prelude.{List};
-    ghost use Rattle.palm_base.specs.declared.call.Entry.{Entry};
-
-    ghost Value = { List Entry };
-
-    ghost view = { λ a. a.entries.items };
-}
-
-impl Deck {
-    // The deck of these entries, in the memory that they stand in.
-    pub(crate) fn from_vec(entries: Vec<Entry>) -> Deck
-        ensures { result ≡ entries.items }
-    {
-        Deck { entries }
-    }
-
-    /// The entries as a vector, in the memory that they stand in.
-    pub fn into_vec(self) -> Vec<Entry>
-        ensures { result.items ≡ self }
-    {
-        self.entries
-    }
-
-    /// The number of edits.
-    pub fn len(&self) -> usize
-        ensures { result ≡ length self.now }
-    {
-        self.entries.len()
-    }
-
-    /// Whether there is no edit.
-    pub fn is_empty(&self) -> bool
-        ensures { result ≡ (length self.now == 0) }
-    {
-        self.entries.is_empty()
-    }
-
-    /// The entries as a slice.
-    pub fn as_slice(&self) -> &[Entry]
-        ensures { result.now ≡ self.now }
-    {
-        self.entries.as_slice()
-    }
-}
+pub type Deck = ItemList<Entry>;
 
 /// What is wrong with a record of a deck. The number of a variant is the code that is reported.
 ///

@@ -70,7 +70,7 @@ fn decks_say_edits(rt: HostRuntime) -> Result<(), Fail> {
         b"op,prefix,rate\nset,123456789012345,999999999999\n",
     );
     says(&rt, &most, &[set(&rt, "123456789012345", 999_999_999_999)]);
-    let entries = most.into_vec();
+    let entries = most.into_list();
     assert_eq!(rt; entries.len(), 1);
     Ok(())
 }

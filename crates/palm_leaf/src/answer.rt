@@ -1,6 +1,6 @@
 // What leaves answer the parts of calls.
-use palm_base::{Amount, RowList};
-use palm_node::{Changes, ItemList};
+use palm_base::{Amount, ItemList, RowList};
+use palm_node::Changes;
 use palm_route::Part;
 
 /// What a leaf answers a part.

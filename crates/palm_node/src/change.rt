@@ -1,8 +1,7 @@
 // What a pass makes of the nodes of a level, as the level below tells the one above.
 use crate::id::{NodeId, Piece};
-use crate::list::ItemList;
 use crate::path::Path;
-use palm_base::RowList;
+use palm_base::{ItemList, RowList};
 
 /// The nodes that stand for an old one, in order. Contracts see the list.
 pub type PieceList = ItemList<Piece>;

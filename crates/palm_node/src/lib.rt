@@ -7,7 +7,6 @@ mod cut;
 mod id;
 mod inner;
 mod leaf;
-mod list;
 mod node;
 mod path;
 #[cfg(test)]
@@ -18,6 +17,5 @@ pub use cut::{piece_size, pieces};
 pub use id::{NodeId, Piece};
 pub use inner::Inner;
 pub use leaf::Leaf;
-pub use list::ItemList;
 pub use node::Node;
 pub use path::{MOST_PATH, Path};

@@ -217,9 +217,9 @@ fn collects_changes(rt: HostRuntime) -> Result<(), Fail> {
     let mut pieces = PieceList::new(rt.alloc());
     assert!(rt; pieces.is_empty());
     pieces.push(piece)?;
-    let pieces = PieceList::from_vec(pieces.into_vec());
+    let pieces = PieceList::from_vec(pieces.into_list());
     assert_eq!(rt; pieces.len(), 1);
-    assert!(rt; *pieces.get(0) == piece);
+    assert!(rt; pieces.get(0) == piece);
     let mut nodes = ChangeList::new(rt.alloc());
     nodes.push(Change {
         node,

@@ -10,8 +10,8 @@ ghost use Rattle.palm_route.specs.Shares.{HasRoom, AreCut, RoutesOne, share_of, 
 
 use crate::part::{Part, PartList, Routed, RoutedList};
 use palm_arena::{Arena, Shape};
-use palm_base::NoMemory;
-use palm_node::{Inner, ItemList, Node, Path};
+use palm_base::{ItemList, NoMemory};
+use palm_node::{Inner, Node, Path};
 use palm_share::{Gate, Job, MOST_WORKERS, each_mut};
 use std::alloc::Global;
 use std::thread::Threads;

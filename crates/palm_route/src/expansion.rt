@@ -13,8 +13,8 @@ ghost use Rattle.palm_route.specs.declared.part.Ask.TheVariants as ask;
 use crate::descent::low_of_child;
 use crate::part::{Ask, Part, PartList};
 use palm_arena::{Arena, Shape};
-use palm_base::{Call, Digits, Entry, Limit, NoMemory};
-use palm_node::{ItemList, Node, NodeId};
+use palm_base::{Call, Digits, Entry, ItemList, Limit, NoMemory};
+use palm_node::{Node, NodeId};
 use std::alloc::Global;
 
 // Keys from one to another, both included.

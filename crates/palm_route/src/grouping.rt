@@ -147,7 +147,7 @@ fn runs(alloc: Global, routed: &[Routed], marks: &[Mark]) -> Result<Groups, NoMe
     for (i, mark) in marks.iter().enumerate() {
         add(alloc, &mut groups, &routed[mark.place], &marks[i..])?;
     }
-    Ok(Groups::from_list(groups))
+    Ok(Groups::from_vec(groups))
 }
 
 /// Puts routed parts together by leaf. The groups stand in the order of the leaves, and the parts of a group in the order in

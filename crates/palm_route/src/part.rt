@@ -1,9 +1,8 @@
 // Parts of calls, routed parts, and groups of them.
-ghost use Rattle.std.specs.Prelude.{◌≡◌, length, ◌==◌};
+ghost use Rattle.std.specs.Prelude.{◌≡◌};
 
-use palm_base::{Amount, Digits, Limit};
-use palm_node::{ItemList, NodeId, Path};
-use std::marker::Model;
+use palm_base::{Amount, Digits, ItemList, Limit};
+use palm_node::{NodeId, Path};
 
 /// Parts of calls, in order. Contracts see the list.
 pub type PartList = ItemList<Part>;
@@ -85,46 +84,4 @@ pub struct Group {
 }
 
 /// The touched leaves with their parts, in the order of the leaves. Contracts see the list of groups.
-#[derive(Debug, Drop)]
-pub struct Groups {
-    groups: Vec<Group>,
-}
-
-impl Model for Groups {
-    ghost use Rattle.std.specs.Prelude.{List};
-    ghost use Rattle.palm_route.specs.declared.part.Group.{Group};
-
-    ghost Value = { List Group };
-
-    ghost view = { λ a. a.groups.items };
-}
-
-impl Groups {
-    // The groups of a vector, in the memory that they stand in.
-    pub(crate) fn from_list(groups: Vec<Group>) -> Groups
-        ensures { result ≡ groups.items }
-    {
-        Groups { groups }
-    }
-
-    /// The groups as a vector, in the memory that they stand in.
-    pub fn into_list(self) -> Vec<Group>
-        ensures { result.items ≡ self }
-    {
-        self.groups
-    }
-
-    /// The number of groups.
-    pub fn len(&self) -> usize
-        ensures { result ≡ length self.now }
-    {
-        self.groups.len()
-    }
-
-    /// Whether there is no group.
-    pub fn is_empty(&self) -> bool
-        ensures { result ≡ (length self.now == 0) }
-    {
-        self.groups.is_empty()
-    }
-}
+pub type Groups = ItemList<Group>;

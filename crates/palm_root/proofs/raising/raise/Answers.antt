@@ -66,8 +66,8 @@ loop-alloc-preserved g c =
 
 pub returns-clause-raised : goal.returns-clause-raised
 returns-clause-raised g c tree others is =
-    level_last tree others (map_of c.loop-alloc.arena.places) (c.loop-alloc.levels - 1) c.loop-alloc.level c.get.result.now _ (omega (arith, c.len.ensures, c.loop-alloc-test.false)) c.get.ensures
-    (let e : c.loop-alloc.levels ≡ c.loop-alloc.levels - 1 + 1 = omega (arith, c.loop-alloc.invariant.counted) in ap (λ n. let s : Shape = record { root = c.get.result.now.id; levels = n } in s) e)
+    level_last tree others (map_of c.loop-alloc.arena.places) (c.loop-alloc.levels - 1) c.loop-alloc.level c.get.result _ (omega (arith, c.len.ensures, c.loop-alloc-test.false)) c.get.ensures
+    (let e : c.loop-alloc.levels ≡ c.loop-alloc.levels - 1 + 1 = omega (arith, c.loop-alloc.invariant.counted) in ap (λ n. let s : Shape = record { root = c.get.result.id; levels = n } in s) e)
     (c.loop-alloc.invariant.level tree others is)
 
 pub returns-clause-ticks : goal.returns-clause-ticks

@@ -38,10 +38,10 @@ loop-alloc-preserved g c = record {
 
 pub returns-clause-whole : goal.returns-clause-whole
 returns-clause-whole g c =
-    (grown_last c.args.rows.now c.loop-alloc.arena.places c.loop-alloc.levels c.loop-alloc.level c.get.result.now _ c.loop-alloc.invariant.far
+    (grown_last c.args.rows.now c.loop-alloc.arena.places c.loop-alloc.levels c.loop-alloc.level c.get.result _ c.loop-alloc.invariant.far
     (omega (arith, c.len.ensures, c.loop-alloc-test.false)) c.get.ensures refl).0
 
 pub returns-clause-tree : goal.returns-clause-tree
 returns-clause-tree g c =
-    (grown_last c.args.rows.now c.loop-alloc.arena.places c.loop-alloc.levels c.loop-alloc.level c.get.result.now _ c.loop-alloc.invariant.far
+    (grown_last c.args.rows.now c.loop-alloc.arena.places c.loop-alloc.levels c.loop-alloc.level c.get.result _ c.loop-alloc.invariant.far
     (omega (arith, c.len.ensures, c.loop-alloc-test.false)) c.get.ensures refl).1

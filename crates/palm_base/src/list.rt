@@ -1,7 +1,7 @@
 // Lists of items, which contracts see as plain lists.
-ghost use Rattle.std.specs.Prelude.{◌≡◌, ◌<◌, ◌++◌, ◌∷◌, [], length, ◌==◌, slice_get, Some, OnOk, OnErr};
+ghost use Rattle.std.specs.Prelude.{◌≡◌, ◌<◌, ◌++◌, ◌∷◌, [], length, ◌==◌, slice_get, Some, OnOk, OnErr, IfOk};
 
-use palm_base::NoMemory;
+use crate::memory::NoMemory;
 use std::alloc::Global;
 use std::marker::Model;
 
@@ -37,7 +37,7 @@ impl<T> ItemList<T> {
     }
 
     /// The items as a vector, in the memory that they stand in.
-    pub fn into_vec(self) -> Vec<T>
+    pub fn into_list(self) -> Vec<T>
         ensures { result.items ≡ self }
     {
         self.items
@@ -57,14 +57,6 @@ impl<T> ItemList<T> {
         self.items.is_empty()
     }
 
-    /// The item at a place, counted from 0.
-    pub fn get(&self, i: usize) -> &T
-        requires { i < length self.now }
-        ensures { slice_get self.now i ≡ Some result.now }
-    {
-        &self.items[i]
-    }
-
     /// The items as a slice.
     pub fn as_slice(&self) -> &[T]
         ensures { result.now ≡ self.now }
@@ -81,5 +73,25 @@ impl<T: Drop> ItemList<T> {
     {
         self.items.push(item)?;
         Ok(())
+    }
+}
+
+impl<T: Copy> ItemList<T> {
+    /// The item at a place, counted from 0.
+    pub fn get(&self, i: usize) -> T
+        requires { i < length self.now }
+        ensures { slice_get self.now i ≡ Some result }
+    {
+        self.items[i]
+    }
+
+    /// A second list of the same items. `NoMemory` where room for it was refused.
+    pub fn try_copy(&self) -> Result<ItemList<T>, NoMemory>
+        ensures { IfOk result (λ copy. copy ≡ self.now) }
+    {
+        let alloc = *self.items.allocator();
+        Ok(ItemList {
+            items: Vec::from_slice(alloc, &self.items)?,
+        })
     }
 }
