@@ -1,7 +1,7 @@
 //! How prefixes, rates and rows are written. Each call appends to a buffer. Where memory is refused, part of what it appends
 //! may stand there: what stood there before still does, so that the caller can take the rest back.
 
-ghost use Rattle.std.specs.Prelude.{◌≡◌, ◌++◌, OnOk};
+ghost use Rattle.std.specs.Prelude.{◌≡◌, ◌++◌, take, OnOk, OnErr};
 ghost use Rattle.std.specs.Fmt.{decimal};
 ghost use Rattle.palm_base.specs.Extends.{Extends};
 ghost use Rattle.palm_base.specs.Text.{digits_text, row_text, listed_row_text, rows_text};
@@ -11,6 +11,22 @@ use crate::digits::Digits;
 use crate::memory::NoMemory;
 use crate::row::{Row, RowList};
 use itoa::Buffer;
+
+/// Takes back what was appended behind the first `before` bytes, where it wasn't appended whole, and answers `appended`.
+pub fn whole_or_nothing(
+    before: usize,
+    appended: Result<(), NoMemory>,
+    out: &mut Vec<u8>,
+) -> Result<(), NoMemory>
+    ensures same { result ≡ appended }
+    ensures ok { OnOk result (out.new.items ≡ out.old.items) }
+    ensures err { OnErr result (out.new.items ≡ take before out.old.items) }
+{
+    if appended.is_err() {
+        out.truncate(before);
+    }
+    appended
+}
 
 /// Appends bytes.
 pub fn append(text: &[u8], out: &mut Vec<u8>) -> Result<(), NoMemory>

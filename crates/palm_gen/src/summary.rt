@@ -3,7 +3,7 @@ ghost use Rattle.std.specs.Prelude.{◌≡◌, ◌≤◌, ◌+◌, ◌++◌, len
 ghost use Rattle.palm_base.specs.Extends.{Extends};
 ghost use Rattle.palm_gen.specs.Summary.{hits_in, sum_in, summary_line, summary_text};
 
-use palm_base::text::{append, append_number};
+use palm_base::text::{append, append_number, whole_or_nothing};
 use palm_base::{NoMemory, Reply};
 use std::marker::Model;
 
@@ -102,8 +102,5 @@ pub fn print_summary(
 {
     let before = text.len();
     let printed = append_summary(tally, rows, levels, text);
-    if printed.is_err() {
-        text.truncate(before);
-    }
-    printed
+    whole_or_nothing(before, printed, text)
 }

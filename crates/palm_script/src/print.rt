@@ -3,7 +3,9 @@ ghost use Rattle.std.specs.Prelude.{◌≡◌, ◌++◌, OnOk, OnErr};
 ghost use Rattle.palm_base.specs.Extends.{Extends};
 ghost use Rattle.palm_script.specs.Transcript.{answer_text, reply_line, batch_line, end_line};
 
-use palm_base::text::{append, append_number, append_rate, append_row, append_rows};
+use palm_base::text::{
+    append, append_number, append_rate, append_row, append_rows, whole_or_nothing,
+};
 use palm_base::{NoMemory, Reply};
 
 fn append_answer(reply: &Reply, out: &mut Vec<u8>) -> Result<(), NoMemory>
@@ -64,10 +66,7 @@ pub fn print_reply(n: u64, caller: u32, reply: &Reply, out: &mut Vec<u8>) -> Res
 {
     let before = out.len();
     let printed = append_reply_line(n, caller, reply, out);
-    if printed.is_err() {
-        out.truncate(before);
-    }
-    printed
+    whole_or_nothing(before, printed, out)
 }
 
 /// Appends the line after a batch of `k` calls. `out` is unchanged where memory is refused.
@@ -77,10 +76,7 @@ pub fn print_batch(k: u32, out: &mut Vec<u8>) -> Result<(), NoMemory>
 {
     let before = out.len();
     let printed = append_batch_line(k, out);
-    if printed.is_err() {
-        out.truncate(before);
-    }
-    printed
+    whole_or_nothing(before, printed, out)
 }
 
 /// Appends the last line: the number of calls, and of rows in the table. `out` is unchanged where memory is refused.
@@ -90,8 +86,5 @@ pub fn print_end(calls: u64, rows: u64, out: &mut Vec<u8>) -> Result<(), NoMemor
 {
     let before = out.len();
     let printed = append_end_line(calls, rows, out);
-    if printed.is_err() {
-        out.truncate(before);
-    }
-    printed
+    whole_or_nothing(before, printed, out)
 }

@@ -5,7 +5,7 @@ ghost use Rattle.palm_script.specs.Spelling.{call_text, plain_text, line_text};
 ghost use Rattle.palm_base.specs.Text.{digits_text};
 
 use crate::line::Line;
-use palm_base::text::{append, append_digits, append_number, append_rate};
+use palm_base::text::{append, append_digits, append_number, append_rate, whole_or_nothing};
 use palm_base::{Call, Digits, NoMemory};
 
 // A word, and a prefix or a number after it.
@@ -71,8 +71,5 @@ pub fn print_line(line: &Line, out: &mut Vec<u8>) -> Result<(), NoMemory>
 {
     let before = out.len();
     let printed = append_line(line, out);
-    if printed.is_err() {
-        out.truncate(before);
-    }
-    printed
+    whole_or_nothing(before, printed, out)
 }

@@ -10,7 +10,7 @@ ghost use Rattle.palm_tree.specs.Walk.{inner_text, nodes_text, ids_below, levels
 
 use crate::tree::Tree;
 use palm_arena::{Arena, Shape};
-use palm_base::text::{append, append_digits, append_listed_row, append_number};
+use palm_base::text::{append, append_digits, append_listed_row, append_number, whole_or_nothing};
 use palm_base::{Digits, NoMemory};
 use palm_node::{Inner, Leaf, Node, NodeId};
 use std::mem;
@@ -122,9 +122,6 @@ impl Tree {
     {
         let before = out.len();
         let dumped = append_shape(self, out);
-        if dumped.is_err() {
-            out.truncate(before);
-        }
-        dumped
+        whole_or_nothing(before, dumped, out)
     }
 }
