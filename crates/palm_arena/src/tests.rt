@@ -125,9 +125,9 @@ fn change<L: Ledger>(
 }
 
 fn roll_back<L: Ledger>(rt: &impl Abort, alloc: Global, blank: Blank) -> Result<(), NoMemory>
-    requires name { blank.name ≡ L.name }
-    requires parts { blank.parts ≡ L.parts }
-    requires some { 0 < blank.parts }
+    requires blank_name { blank.name ≡ L.name }
+    requires blank_parts { blank.parts ≡ L.parts }
+    requires blank { 0 < blank.parts }
 {
     let mut steps = Steps::<L>::new(blank);
     let (mut arena, first, second) = with_two(rt, alloc, &mut steps)?;
@@ -141,9 +141,9 @@ fn roll_back<L: Ledger>(rt: &impl Abort, alloc: Global, blank: Blank) -> Result<
 }
 
 fn keep<L: Ledger>(rt: &impl Abort, alloc: Global, blank: Blank) -> Result<(), NoMemory>
-    requires name { blank.name ≡ L.name }
-    requires parts { blank.parts ≡ L.parts }
-    requires some { 0 < blank.parts }
+    requires blank_name { blank.name ≡ L.name }
+    requires blank_parts { blank.parts ≡ L.parts }
+    requires blank { 0 < blank.parts }
 {
     let mut steps = Steps::<L>::new(blank);
     let (mut arena, first, second) = with_two(rt, alloc, &mut steps)?;
@@ -165,9 +165,9 @@ fn keep<L: Ledger>(rt: &impl Abort, alloc: Global, blank: Blank) -> Result<(), N
 }
 
 fn use_again<L: Ledger>(rt: &impl Abort, alloc: Global, blank: Blank) -> Result<(), NoMemory>
-    requires name { blank.name ≡ L.name }
-    requires parts { blank.parts ≡ L.parts }
-    requires some { 0 < blank.parts }
+    requires blank_name { blank.name ≡ L.name }
+    requires blank_parts { blank.parts ≡ L.parts }
+    requires blank { 0 < blank.parts }
 {
     let mut steps = Steps::<L>::new(blank);
     let (mut arena, first, second) = with_two(rt, alloc, &mut steps)?;
@@ -186,9 +186,9 @@ fn use_again<L: Ledger>(rt: &impl Abort, alloc: Global, blank: Blank) -> Result<
 }
 
 fn lend_twice<L: Ledger>(rt: &impl Abort, alloc: Global, blank: Blank) -> Result<(), NoMemory>
-    requires name { blank.name ≡ L.name }
-    requires parts { blank.parts ≡ L.parts }
-    requires some { 0 < blank.parts }
+    requires blank_name { blank.name ≡ L.name }
+    requires blank_parts { blank.parts ≡ L.parts }
+    requires blank { 0 < blank.parts }
 {
     let mut steps = Steps::<L>::new(blank);
     let (mut arena, first, second) = with_two(rt, alloc, &mut steps)?;

@@ -110,7 +110,7 @@ impl Digits {
     // The prefix of a text of digits.
     fn from_digits(text: &[u8]) -> Digits
         requires least { 1 ≤ length text.now }
-        requires most { length text.now ≤ MOST_DIGITS }
+        requires few { length text.now ≤ MOST_DIGITS }
         requires digits { All (λ b. is_no_digit b ≡ false) text.now }
         ensures { result ≡ digits_in text.now }
     {

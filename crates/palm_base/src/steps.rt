@@ -25,9 +25,9 @@ impl<L: Ledger> Model for Steps<L> {
 impl<L: Ledger> Steps<L> {
     /// A counter that stands at 0. A function over any `L` makes one of its blank, and is called with `Brand`.
     pub fn new(blank: Blank) -> Steps<L>
-        requires name { blank.name ≡ L.name }
-        requires parts { blank.parts ≡ L.parts }
-        requires some { 0 < blank.parts }
+        requires blank_name { blank.name ≡ L.name }
+        requires blank_parts { blank.parts ≡ L.parts }
+        requires blank { 0 < blank.parts }
         ensures { result ≡ 0 }
     {
         let (book, share) = blank.open::<L>();

@@ -124,9 +124,9 @@ fn keeps_rows(rt: HostRuntime) {
 
 // The steps of two ticks, with a counter of its own.
 fn ticks_twice<L: Ledger>(blank: Blank)
-    requires name { blank.name ≡ L.name }
-    requires parts { blank.parts ≡ L.parts }
-    requires some { 0 < blank.parts }
+    requires blank_name { blank.name ≡ L.name }
+    requires blank_parts { blank.parts ≡ L.parts }
+    requires blank { 0 < blank.parts }
 {
     let mut steps = Steps::<L>::new(blank);
     steps.tick();

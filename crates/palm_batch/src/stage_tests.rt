@@ -74,8 +74,8 @@ fn staged<R: Threads + Sync, G: Gate + Sync, L: Ledger>(
     gate: &G,
     blank: Blank,
 ) -> Result<LeafOutcome, NoMemory>
-    requires name { blank.name ≡ L.name }
-    requires parts { blank.parts ≡ L.parts }
+    requires blank_name { blank.name ≡ L.name }
+    requires blank_parts { blank.parts ≡ L.parts }
     requires blank { 0 < blank.parts }
     requires some { 1 ≤ workers }
     requires few { workers ≤ MOST_WORKERS }
@@ -157,8 +157,8 @@ fn passed<R: Threads + Sync, L: Ledger>(
     workers: u32,
     blank: Blank,
 ) -> Result<Passed, NoMemory>
-    requires name { blank.name ≡ L.name }
-    requires parts { blank.parts ≡ L.parts }
+    requires blank_name { blank.name ≡ L.name }
+    requires blank_parts { blank.parts ≡ L.parts }
     requires blank { 0 < blank.parts }
     requires some { 1 ≤ workers }
     requires few { workers ≤ MOST_WORKERS }
@@ -365,8 +365,8 @@ fn replied<R: Threads + Sync, G: Gate + Sync, L: Ledger>(
     gate: &G,
     blank: Blank,
 ) -> Result<String, Fail>
-    requires name { blank.name ≡ L.name }
-    requires parts { blank.parts ≡ L.parts }
+    requires blank_name { blank.name ≡ L.name }
+    requires blank_parts { blank.parts ≡ L.parts }
     requires blank { 0 < blank.parts }
     requires most { length batch.now ≤ MOST_CALLS }
     requires some { 1 ≤ workers }

@@ -29,8 +29,8 @@ fn run<R: Threads + Sync, L: Ledger>(
     workers: u32,
     blank: Blank,
 ) -> Result<Vec<Reply>, NoMemory>
-    requires name { blank.name ≡ L.name }
-    requires parts { blank.parts ≡ L.parts }
+    requires blank_name { blank.name ≡ L.name }
+    requires blank_parts { blank.parts ≡ L.parts }
     requires blank { 0 < blank.parts }
     requires most { length batch.now ≤ MOST_CALLS }
     requires some { 1 ≤ workers }

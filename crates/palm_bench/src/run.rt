@@ -132,9 +132,9 @@ pub fn run<R: Threads + Sync, L: Ledger>(
     plan: Plan,
     blank: Blank,
 ) -> Result<Outcome, NoMemory>
-    requires name { blank.name ≡ L.name }
-    requires parts { blank.parts ≡ L.parts }
-    requires some { 0 < blank.parts }
+    requires blank_name { blank.name ≡ L.name }
+    requires blank_parts { blank.parts ≡ L.parts }
+    requires blank { 0 < blank.parts }
     ensures outcome { IfOk result (λ outcome. IsOutcome plan.kind plan.count outcome.rows outcome.levels outcome.sum) }
 {
     let mut steps = Steps::<L>::new(blank);

@@ -51,9 +51,9 @@ fn start<R: Threads + Sync, S: Source, O: Sink, E: Sink, L: Ledger>(
     err: &mut E,
     blank: Blank,
 ) -> u8
-    requires name { blank.name ≡ L.name }
-    requires parts { blank.parts ≡ L.parts }
-    requires some { 0 < blank.parts }
+    requires blank_name { blank.name ≡ L.name }
+    requires blank_parts { blank.parts ≡ L.parts }
+    requires blank { 0 < blank.parts }
 {
     let mut steps = Steps::<L>::new(blank);
     let Ok(mut engine) = Engine::new(alloc) else {

@@ -122,8 +122,8 @@ fn left_with<R: Threads + Sync + Abort, L: Ledger>(
     workers: u32,
     blank: Blank,
 ) -> Result<Vec<u8>, NoMemory>
-    requires name { blank.name ≡ L.name }
-    requires parts { blank.parts ≡ L.parts }
+    requires blank_name { blank.name ≡ L.name }
+    requires blank_parts { blank.parts ≡ L.parts }
     requires blank { 0 < blank.parts }
     requires one { 1 ≤ max }
     requires most { max ≤ MOST_CALLS }
@@ -260,8 +260,8 @@ fn rows_left_with<R: Threads + Sync + Abort, L: Ledger>(
     history: &[Edits],
     blank: Blank,
 ) -> Result<Vec<u8>, NoMemory>
-    requires name { blank.name ≡ L.name }
-    requires parts { blank.parts ≡ L.parts }
+    requires blank_name { blank.name ≡ L.name }
+    requires blank_parts { blank.parts ≡ L.parts }
     requires blank { 0 < blank.parts }
 {
     let mut steps = Steps::<L>::new(blank);
@@ -311,8 +311,8 @@ fn front_with<R: Threads + Sync + Abort, L: Ledger>(
     max: u32,
     blank: Blank,
 ) -> Result<(usize, Vec<u8>), NoMemory>
-    requires name { blank.name ≡ L.name }
-    requires parts { blank.parts ≡ L.parts }
+    requires blank_name { blank.name ≡ L.name }
+    requires blank_parts { blank.parts ≡ L.parts }
     requires blank { 0 < blank.parts }
     requires one { 1 ≤ max }
     requires most { max ≤ MOST_CALLS }
@@ -357,8 +357,8 @@ fn grown_and_felled<R: Threads + Sync + Abort + Print, L: Ledger>(
     alloc: Global,
     blank: Blank,
 ) -> Result<(Vec<u8>, Vec<u8>), Fail>
-    requires name { blank.name ≡ L.name }
-    requires parts { blank.parts ≡ L.parts }
+    requires blank_name { blank.name ≡ L.name }
+    requires blank_parts { blank.parts ≡ L.parts }
     requires blank { 0 < blank.parts }
 {
     let mut steps = Steps::<L>::new(blank);

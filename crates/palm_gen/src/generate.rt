@@ -28,7 +28,7 @@ fn drawn(state: u64) -> u64
 // Writes the last `n` decimal digits of a number to the front of a text.
 fn write_digits(text: &mut [u8], n: usize, value: u64)
     requires { n ≤ length text.old }
-    ensures front { take n text.new ≡ digits_text (last_digits n value) }
+    ensures written { take n text.new ≡ digits_text (last_digits n value) }
     ensures rest { drop n text.new ≡ drop n text.old }
 {
     if n > 0 {
@@ -40,7 +40,7 @@ fn write_digits(text: &mut [u8], n: usize, value: u64)
 // The last `n` decimal digits of a number, and after them one digit so many times.
 fn digits_of(n: usize, value: u64, digit: u8, times: usize) -> Digits
     requires some { 1 ≤ n }
-    requires room { n + times ≤ MOST_DIGITS }
+    requires few { n + times ≤ MOST_DIGITS }
     requires small { digit < 10 }
     ensures { result ≡ last_digits n value ++ replicate times digit }
 {

@@ -35,8 +35,8 @@ fn equal_bits(keys: &[u64], key: u64) -> u64
 // The bits of the first `len` places, from those of the first eight and of the next eight. Whatever the other places
 // hold, their bits are 0.
 fn joined(low: u64, high: u64, len: usize) -> u64
-    requires low { low < 2 ^ LANES }
-    requires high { high < 2 ^ LANES }
+    requires low_bits { low < 2 ^ LANES }
+    requires high_bits { high < 2 ^ LANES }
     requires len { len ≤ KEY_ROOM }
     ensures { result ≡ (low + 2 ^ LANES * high) % 2 ^ len }
 {

@@ -79,9 +79,9 @@ fn groups_nothing(rt: HostRuntime) -> Result<(), Fail> {
 
 // An arena of the empty tree: a leaf of no rows.
 fn empty_tree<L: Ledger>(alloc: Global, blank: Blank) -> Result<(Arena, Shape), NoMemory>
-    requires name { blank.name ≡ L.name }
-    requires parts { blank.parts ≡ L.parts }
-    requires some { 0 < blank.parts }
+    requires blank_name { blank.name ≡ L.name }
+    requires blank_parts { blank.parts ≡ L.parts }
+    requires blank { 0 < blank.parts }
     ensures { IfOk result (λ made. HasTree (map_of made.0.places) made.1) }
 {
     let mut steps = Steps::<L>::new(blank);

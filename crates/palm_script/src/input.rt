@@ -54,12 +54,12 @@ fn read_through<S: Source>(
     buf: &mut [u8],
     bytes: &mut Vec<u8>,
 ) -> Result<InputEnd, NoMemory>
-    requires none { bytes.old.items ≡ [] }
+    requires empty { bytes.old.items ≡ [] }
     requires buffer { 0 < length buf.old }
     ensures read { IfOk result (λ end. IsRead (S.left src.old) (S.left src.new) (S.faults src.old) (S.faults src.new) bytes.new.items end) }
-    ensures most { OnOk result (length bytes.new.items ≤ MOST_BYTES) }
+    ensures few { OnOk result (length bytes.new.items ≤ MOST_BYTES) }
     ensures front { (read : List ℕ) × Consumes (S.left src.old) (S.left src.new) read }
-    ensures later { S.faults src.old ≤ S.faults src.new }
+    ensures faults { S.faults src.old ≤ S.faults src.new }
 {
     while bytes.len() <= MOST_BYTES {
         let room = buf.len().min(MOST_BYTES + 1 - bytes.len());
@@ -79,9 +79,9 @@ fn read_through<S: Source>(
 /// `NoMemory` leaves the source where it was read to.
 pub fn read_input<S: Source>(alloc: Global, src: &mut S) -> Result<Input, NoMemory>
     ensures read { IfOk result (λ input. IsRead (S.left src.old) (S.left src.new) (S.faults src.old) (S.faults src.new) input.bytes.items input.end) }
-    ensures most { IfOk result (λ input. length input.bytes.items ≤ MOST_BYTES) }
+    ensures few { IfOk result (λ input. length input.bytes.items ≤ MOST_BYTES) }
     ensures front { (read : List ℕ) × Consumes (S.left src.old) (S.left src.new) read }
-    ensures later { S.faults src.old ≤ S.faults src.new }
+    ensures faults { S.faults src.old ≤ S.faults src.new }
 {
     let mut bytes = Vec::new(alloc);
     let mut buf = make_buffer(alloc)?;

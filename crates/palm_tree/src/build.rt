@@ -137,8 +137,8 @@ fn put_nodes<L: Ledger>(
 
 // An arena of the tree that one batch of Sets of rows leaves of the empty tree, made with a counter of its own.
 fn grow<L: Ledger>(alloc: Global, blank: Blank, rows: &[Row]) -> Result<(Arena, Shape), NoMemory>
-    requires name { blank.name ≡ L.name }
-    requires parts { blank.parts ≡ L.parts }
+    requires blank_name { blank.name ≡ L.name }
+    requires blank_parts { blank.parts ≡ L.parts }
     requires blank { 0 < blank.parts }
     requires some { 0 < length rows.now }
     requires table { IsTable rows.now }

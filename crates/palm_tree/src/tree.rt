@@ -41,9 +41,9 @@ impl Model for Tree {
 
 // An arena of an empty leaf alone, made with a counter of its own.
 fn one_leaf<L: Ledger>(alloc: Global, blank: Blank) -> Result<(Arena, NodeId), NoMemory>
-    requires name { blank.name ≡ L.name }
-    requires parts { blank.parts ≡ L.parts }
-    requires some { 0 < blank.parts }
+    requires blank_name { blank.name ≡ L.name }
+    requires blank_parts { blank.parts ≡ L.parts }
+    requires blank { 0 < blank.parts }
     ensures { IfOk result (λ (arena, root). (arena.begun ≡ None) × (arena.places ≡ leaf_alone root)) }
 {
     let mut steps = Steps::<L>::new(blank);

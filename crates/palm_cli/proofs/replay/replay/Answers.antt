@@ -19,7 +19,7 @@ returns-in-Err-clause-end g c =
     let ran = c.in-Err.ensures in
     rw c.from.ensures (
     script_stops c.args.settings.now c.in-Err.stop _ input.bytes.items input.end c.in-Ok-read_script.script c.is_done-finished.result after
-    c.in-Ok.ensures.read c.in-Ok.ensures.most says finished ran.front (λ is. ran.cause (ap Err is))
+    c.in-Ok.ensures.read c.in-Ok.ensures.few says finished ran.front (λ is. ran.cause (ap Err is))
     )
 
 pub returns-clause-end : goal.returns-clause-end
@@ -31,5 +31,5 @@ returns-clause-end g c =
     let ran = c.in_default-run_script.ensures in
     rw c.end_by-end.ensures (
     script_ends c.faults_stand.ensures c.args.settings.now _ input.bytes.items input.end c.in-Ok-read_script.script c.is_done-finished.result after
-    c.in-Ok.ensures.read c.in-Ok.ensures.most says finished ran.text ran.tree ran.kept ran.ticks
+    c.in-Ok.ensures.read c.in-Ok.ensures.few says finished ran.text ran.tree ran.kept ran.ticks
     )
