@@ -5,6 +5,7 @@ use crate::{
 };
 use palm_script::DumpWhen;
 use std::alloc::{AllocError, Global};
+use std::process::Abort;
 use std::test::Fail;
 
 // The words of a line, which stand between single blanks.
@@ -90,12 +91,24 @@ fn words_of_the_form_set_what_they_say(rt: HostRuntime) -> Result<(), Fail> {
     Ok(())
 }
 
+// Asserts of each line that its words are refused.
+fn are_wrong_usage(rt: &impl Abort, alloc: Global, lines: &[&str]) -> Result<(), Fail> {
+    for line in lines {
+        assert_eq!(rt; read(alloc, line)?, Err(WordsFault::Usage), "{line}");
+    }
+    Ok(())
+}
+
 #[test]
-fn other_words_are_wrong_usage(rt: HostRuntime) -> Result<(), Fail> {
+fn no_words_are_wrong_usage(rt: HostRuntime) {
     let none = Vec::new(rt.alloc());
     assert_eq!(rt; read_words(rt.alloc(), &none), Err(WordsFault::Usage));
-    for line in [
-        // No mode, or no such mode, or two.
+}
+
+// No mode, or no such mode, or two.
+#[test]
+fn words_without_one_mode_are_wrong_usage(rt: HostRuntime) -> Result<(), Fail> {
+    let lines = [
         "",
         "-",
         "--",
@@ -114,7 +127,13 @@ fn other_words_are_wrong_usage(rt: HostRuntime) -> Result<(), Fail> {
         "deck gen",
         "replay -- replay",
         "-- --batch",
-        // No such option.
+    ];
+    are_wrong_usage(&rt, rt.alloc(), &lines)
+}
+
+#[test]
+fn words_with_no_such_option_are_wrong_usage(rt: HostRuntime) -> Result<(), Fail> {
+    let lines = [
         "-h",
         "--help",
         "--version",
@@ -126,10 +145,20 @@ fn other_words_are_wrong_usage(rt: HostRuntime) -> Result<(), Fail> {
         "replay --Batch 4",
         "replay --mode=replay",
         "replay --=4",
-        // An option that stands twice.
-        "replay --batch=4 --batch=4",
-        "replay --dump end --dump end",
-        // No VALUE, or one that begins with a dash.
+    ];
+    are_wrong_usage(&rt, rt.alloc(), &lines)
+}
+
+#[test]
+fn words_with_an_option_twice_are_wrong_usage(rt: HostRuntime) -> Result<(), Fail> {
+    let lines = ["replay --batch=4 --batch=4", "replay --dump end --dump end"];
+    are_wrong_usage(&rt, rt.alloc(), &lines)
+}
+
+// No VALUE, or one that begins with a dash.
+#[test]
+fn options_without_a_value_are_wrong_usage(rt: HostRuntime) -> Result<(), Fail> {
+    let lines = [
         "replay --batch",
         "replay --batch ",
         "replay --batch=",
@@ -139,7 +168,13 @@ fn other_words_are_wrong_usage(rt: HostRuntime) -> Result<(), Fail> {
         "replay --batch --",
         "replay --batch -- 4",
         "replay --batch -4",
-        // A VALUE that isn't one of the option's.
+    ];
+    are_wrong_usage(&rt, rt.alloc(), &lines)
+}
+
+#[test]
+fn values_not_of_the_option_are_wrong_usage(rt: HostRuntime) -> Result<(), Fail> {
+    let lines = [
         "replay --batch +4",
         "replay --batch 4x",
         "replay --batch=4=5",
@@ -154,19 +189,23 @@ fn other_words_are_wrong_usage(rt: HostRuntime) -> Result<(), Fail> {
         "replay --seed 000000000000000000001",
         "replay --calls 10000001",
         "gen --calls 10000001",
-    ] {
-        assert_eq!(rt; read(rt.alloc(), line)?, Err(WordsFault::Usage), "{line}");
+    ];
+    are_wrong_usage(&rt, rt.alloc(), &lines)
+}
+
+// A word of 1,000 letters.
+fn long_word(alloc: Global) -> Result<String, AllocError> {
+    let mut word = String::new(alloc);
+    for _ in 0..1_000 {
+        word.push('a')?;
     }
-    Ok(())
+    Ok(word)
 }
 
 #[test]
 fn words_of_1_000_letters_are_wrong_usage(rt: HostRuntime) -> Result<(), Fail> {
     let alloc = rt.alloc();
-    let mut long = String::new(alloc);
-    for _ in 0..1_000 {
-        long.push('a')?;
-    }
+    let long = long_word(alloc)?;
     for line in [
         format!(in alloc; "{long}")?,
         format!(in alloc; "-{long} replay")?,
