@@ -2,6 +2,7 @@
 use Rattle.std.proofs.Common.{◌≡◌, ℕ, zero, suc, ◌+◌, ◌-◌, ◌<◌, ◌≤◌, List, [], ◌∷◌, ◌++◌, length, drop, take, get_or, refl, sym, ap, ◌∙◌, arith, length-append, length-drop, append_assoc, subst, Some}
 use Rattle.std.specs.Prelude.{slice_get}
 use Rattle.std.proofs.lemmas.List.{drop-drop, drop_all, take_all, length-take-le}
+use Rattle.std.proofs.lemmas.Option.{get_or_from_slice_get}
 use Rattle.std.proofs.Math.Seq.{drop-cons}
 use Rattle.palm_node.specs.InnerNode.{InnerNode, IsInner}
 use Rattle.palm_node.specs.declared.id.NodeId.{NodeId}
@@ -57,7 +58,7 @@ pub length_children : (node : InnerNode) → IsInner node → length (children_o
 length_children node inner = length_pieces (0 ∷ node.separators) node.children (let e = inner.between in omega arith)
 
 -- One child more of those from a place on.
-pub own_next : (node : InnerNode) (from i : ℕ) (low : ℕ) (id : NodeId) → IsInner node → from ≤ i → low ≡ get_or (0 ∷ node.separators) i 0 → slice_get node.children i ≡ Some id
+pub own_next : (node : InnerNode) (from i : ℕ) (low : ℕ) (id : NodeId) → IsInner node → from ≤ i → slice_get (0 ∷ node.separators) i ≡ Some low → slice_get node.children i ≡ Some id
     → take (i + 1 - from) (drop from (children_of node)) ≡ take (i - from) (drop from (children_of node)) ++ record { low = low; id = id } ∷ []
 own_next node from i low id inner less is at =
     let lows : List ℕ = 0 ∷ node.separators in
@@ -65,7 +66,7 @@ own_next node from i low id inner less is at =
     let more : i + 1 - from ≡ suc (i - from) = omega arith in
     let long : length (drop from node.children) ≤ length (drop from lows) = let e = inner.between in simp length-drop (omega arith) in
     let got : slice_get (drop from node.children) (i - from) ≡ Some id = get_drop from (i - from) node.children ∙ ap (slice_get node.children) here ∙ at in
-    let own : get_or (drop from lows) (i - from) 0 ≡ low = get_or_drop from (i - from) lows ∙ ap (λ k. get_or lows k 0) here ∙ sym is in
+    let own : get_or (drop from lows) (i - from) 0 ≡ low = get_or_drop from (i - from) lows ∙ ap (λ k. get_or lows k 0) here ∙ get_or_from_slice_get lows i low 0 is in
     rw (more, drop_more from lows node.children)
     (one_more (drop from lows) (drop from node.children) (i - from) id long got ∙ ap (λ k. take (i - from) (pieces_at (drop from lows) (drop from node.children)) ++ record { low = k; id = id } ∷ []) own)
 

@@ -1,5 +1,5 @@
 // One inner node of a level: from what stands for its children to what stands for it.
-ghost use Rattle.std.specs.Prelude.{◌≡◌, ◌+◌, ◌-◌, ◌<◌, ◌≤◌, ◌++◌, [], ◌∷◌, length, take, drop, slice_index_or, map};
+ghost use Rattle.std.specs.Prelude.{◌≡◌, ◌+◌, ◌-◌, ◌<◌, ◌≤◌, ◌++◌, [], length, take, drop, map};
 ghost use Rattle.std.specs.Vec.{vec_len, vec_capacity};
 ghost use Rattle.palm_base.specs.Cut.{piece_count, cut};
 ghost use Rattle.std.specs.List.{AllByRecursion};
@@ -28,14 +28,6 @@ pub fn last_step_of(path: &Path) -> (NodeId, usize)
     path.get(path.len() - 1)
 }
 
-/// The low of a child: 0 of the first, and of another the separator before it.
-pub fn low_of_child(inner: &Inner, i: usize) -> u64
-    requires { i < length inner.now.children }
-    ensures { result ≡ slice_index_or (0 ∷ inner.now.separators) i 0 }
-{
-    if i == 0 { 0 } else { inner.separator(i - 1) }
-}
-
 // Appends the children of a node from one place up to another, with their lows.
 fn append_own(inner: &Inner, from: usize, to: usize, children: &mut Vec<Piece>)
     requires inner { IsInner inner.now }
@@ -47,7 +39,7 @@ fn append_own(inner: &Inner, from: usize, to: usize, children: &mut Vec<Piece>)
     ensures capacity { vec_capacity children.new ≡ vec_capacity children.old }
 {
     for i in from..to {
-        let low = low_of_child(inner, i);
+        let low = inner.low_of_child(i, 0);
         children.push_reserved(Piece {
             low,
             id: inner.child(i),

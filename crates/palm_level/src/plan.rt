@@ -9,7 +9,7 @@ ghost use Rattle.palm_level.specs.Runs.{runs};
 ghost use Rattle.palm_level.specs.Groups.{touched_of, is_alone, is_still, low_at};
 ghost use Rattle.palm_level.specs.Plans.{Fits, IsInnerAt, CanWork, IsRoomAt, planned_key, touched_by, piece_total, HasRoom, IsPlanned};
 
-use crate::node_work::{Part, last_step_of, low_of_child, splice};
+use crate::node_work::{Part, last_step_of, splice};
 use palm_arena::Arena;
 use palm_base::{MOST_CHILDREN, NoMemory};
 use palm_node::{Change, Inner, Node, NodeId, Path, Piece, PieceList, pieces};
@@ -157,7 +157,7 @@ fn low_of_path(arena: &Arena, path: &Path) -> u64
     let Node::Inner(inner) = arena.read(node) else {
         unreachable!()
     };
-    low_of_child(inner, child)
+    inner.low_of_child(child, 0)
 }
 
 // The room to make a node anew, and none where it stays as it is.

@@ -8,7 +8,7 @@
 // So prefixes that stand before 2 are in a, those from 2 on in b, and those from 44 on in c. It is 264 bytes wide. The
 // separators stand side by side in words, so that a search compares eight of them at once where they are. One word fewer
 // counts than there are children, and the last one never does: it makes the room a multiple of eight.
-ghost use Rattle.std.specs.Prelude.{◌≡◌, ◌≤◌, ◌<◌, ◌+◌, [], length, map, take, count_by, nat_le, slice_get, Some};
+ghost use Rattle.std.specs.Prelude.{◌≡◌, ◌≤◌, ◌<◌, ◌+◌, [], ◌∷◌, length, map, take, count_by, nat_le, slice_get, Some};
 ghost use Rattle.std.specs.List.Sorted.{IsStrictlyIncreasing};
 ghost use Rattle.palm_node.specs.InnerNode.{IsInner, later_lows, inner_over};
 
@@ -145,6 +145,17 @@ impl Inner {
     {
         let separators = &self.separators;
         separators[i]
+    }
+
+    /// The key at which the range of the child at a place begins, where the node's own range begins at `low`.
+    pub fn low_of_child(&self, child: usize, low: u64) -> u64
+        requires { child < length self.now.children }
+        ensures { slice_get (low ∷ self.now.separators) child ≡ Some result }
+    {
+        if child == 0 {
+            return low;
+        }
+        self.separator(child - 1)
     }
 
     /// The place of the child whose rows a key stands among: as many children stand to its left as there are separators

@@ -186,6 +186,8 @@ fn puts_other_children_in_place(rt: HostRuntime) -> Result<(), Fail> {
     assert!(rt; inner.len() == 2);
     assert_eq!(rt; inner.child(1).place, 201);
     assert_eq!(rt; inner.separator(0), 10);
+    assert_eq!(rt; inner.low_of_child(0, 3), 3);
+    assert_eq!(rt; inner.low_of_child(1, 3), 10);
     let children = ids(rt.alloc(), 300)?;
     assert!(rt; 3 <= children.len());
     let seps = [7, 8];

@@ -1,5 +1,5 @@
 // The way of a part down the tree: at each inner node to the child whose range has the part's key.
-ghost use Rattle.std.specs.Prelude.{◌≡◌, ◌<◌, ◌≤◌, [], ◌∷◌, length, slice_get, map, All, IfOk, Some};
+ghost use Rattle.std.specs.Prelude.{◌≡◌, ◌<◌, ◌≤◌, [], length, map, All, IfOk};
 ghost use Rattle.std.specs.List.{AllByRecursion, flat_map};
 ghost use Rattle.std.specs.Vec.{vec_capacity};
 ghost use Rattle.palm_arena.specs.Leaves.{leaves_at};
@@ -11,21 +11,10 @@ ghost use Rattle.palm_route.specs.Shares.{HasRoom, AreCut, RoutesOne, share_of, 
 use crate::part::{Part, PartList, Routed, RoutedList};
 use palm_arena::{Arena, Shape};
 use palm_base::{ItemList, NoMemory};
-use palm_node::{Inner, Node, Path};
+use palm_node::{Node, Path};
 use palm_share::{Gate, Job, MOST_WORKERS, each_mut};
 use std::alloc::Global;
 use std::thread::Threads;
-
-// The key at which the range of an inner node's child begins, where the node's own begins at `low`.
-pub(crate) fn low_of_child(inner: &Inner, child: usize, low: u64) -> u64
-    requires { child < length inner.now.children }
-    ensures { slice_get (low ∷ inner.now.separators) child ≡ Some result }
-{
-    if child == 0 {
-        return low;
-    }
-    inner.separator(child - 1)
-}
 
 // A part that is still at the root.
 fn at_root(shape: Shape, part: &Part) -> Routed
@@ -53,7 +42,7 @@ fn walk(arena: &Arena, shape: Shape, routed: &mut Routed)
         };
         let child = inner.route(routed.part.key);
         routed.path.push(routed.leaf, child);
-        routed.low = low_of_child(inner, child, routed.low);
+        routed.low = inner.low_of_child(child, routed.low);
         routed.leaf = inner.child(child);
     }
 }

@@ -10,7 +10,6 @@ ghost use Rattle.palm_route.specs.Parts.{lows_of, is_later, list_keys, front_key
 ghost use Rattle.palm_route.specs.Ranges.{HasRange};
 ghost use Rattle.palm_route.specs.declared.part.Ask.TheVariants as ask;
 
-use crate::descent::low_of_child;
 use crate::part::{Ask, Part, PartList};
 use palm_arena::{Arena, Shape};
 use palm_base::{Call, Digits, Entry, ItemList, Limit, NoMemory};
@@ -43,7 +42,7 @@ fn append_lows(
     let last = inner.route(span.to);
     let mut i = inner.route(span.from);
     while i <= last {
-        let first = low_of_child(inner, i, low);
+        let first = inner.low_of_child(i, low);
         append_lows(arena, inner.child(i), below - 1, first, span, keys)?;
         i += 1;
     }
