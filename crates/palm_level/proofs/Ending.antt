@@ -19,7 +19,7 @@ use Rattle.palm_arena.specs.Cells.{Cell, found_at, SameCells}
 use Rattle.palm_arena.proofs.CellLists.{same_append, same_swap, same_trans, same_eq}
 use Rattle.palm_arena.proofs.Turning.{turns_then, turns_same}
 use Rattle.palm_arena.proofs.Natural.{length-map'}
-use Rattle.palm_level.specs.Works.{first_node, parts_left, part_over}
+use Rattle.palm_level.specs.Works.{first_node, parts_left, later_over}
 use Rattle.palm_level.specs.Splices.{children_left}
 use Rattle.palm_level.specs.Groups.{Touched, Group, is_still}
 use Rattle.palm_level.specs.Plans.{CanWork, touched_by, planned_key}
@@ -44,7 +44,7 @@ work_done nodes id changes (Some w) (Some v) ran (moves, id_is, held, same, read
   ran.id ∙ id_is,
   λ node at.
       let own : w.lease.node ≡ Inner node = (let e : Some w.lease.node ≡ Some (Inner node) = sym held ∙ at in cc) in
-      subst (λ cs. (v.lease.node ≡ Inner (first_node node (parts_left node cs))) × (v.children.items ≡ children_left node cs) × (v.later.items ≡ map part_over (drop 1 (parts_left node cs)))) same (ran.made node own),
+      subst (λ cs. (v.lease.node ≡ Inner (first_node node (parts_left node cs))) × (v.children.items ≡ children_left node cs) × (v.later.items ≡ map later_over (drop 1 (parts_left node cs)))) same (ran.made node own),
 )
 
 work_times : (id : NodeId) (before after : Option LevelWork) → WorkRan before after → times_worked id after ≡ times_worked id before
@@ -132,7 +132,7 @@ later_spare nodes (Some t ∷ ts) all =
     by : (work : Option LevelWork) → WorkIsDone nodes t.parent.node t.parent.changes.now work → later_count work ≡ spare_of nodes (touched_by t.parent)
     by None still = sym (ap (λ s. cond s 0 (spare_in (inner_in (nodes t.parent.node)) t.parent.changes.now)) still)
     by (Some w) done =
-        ap length (done.2 can.node can.held).2 ∙ length-map' part_over (drop 1 (parts_left can.node t.parent.changes.now))
+        ap length (done.2 can.node can.held).2 ∙ length-map' later_over (drop 1 (parts_left can.node t.parent.changes.now))
         ∙ sym (ap (λ (o : Option Node). spare_in (inner_in o) t.parent.changes.now) can.held)
         ∙ sym (ap (λ s. cond s 0 (spare_in (inner_in (nodes t.parent.node)) t.parent.changes.now)) done.0)
 

@@ -8,14 +8,14 @@ use Rattle.palm_base.specs.Pass.{first_low}
 use Rattle.palm_base.specs.declared.bounds.TheConstants.{MOST_CHILDREN, LEAST_CHILDREN}
 use Rattle.palm_node.specs.InnerNode.{InnerNode, Rise, inner_over, later_lows}
 use Rattle.palm_node.specs.declared.id.Piece.{Piece}
-use Rattle.palm_level.specs.Works.{part_over, first_node}
-use Rattle.palm_level.specs.declared.node_work.Part.{Part}
+use Rattle.palm_level.specs.Works.{later_over, first_node}
+use Rattle.palm_level.specs.declared.node_work.LaterNode.{LaterNode}
 use Rattle.palm_base.proofs.CutSteps.{pieces_left, IsCutTo, left_first, left_next, left_last, cut_first, cut_next, next_fits}
 use Rattle.palm_node.proofs.RisingLows.{later_take, later_drop}
 
 -- The parts before the i-th are made, and the rest of the children is left.
-pub record PartsSoFar (children : List Piece) (i : ℕ) (rest : List Piece) (later : List Part) : Type 0 where
-  pub parts : later ++ map part_over (pieces_left MOST_CHILDREN (length children) i rest) ≡ map part_over (drop 1 (cut MOST_CHILDREN children))
+pub record PartsSoFar (children : List Piece) (i : ℕ) (rest : List Piece) (later : List LaterNode) : Type 0 where
+  pub parts : later ++ map later_over (pieces_left MOST_CHILDREN (length children) i rest) ≡ map later_over (drop 1 (cut MOST_CHILDREN children))
   pub cut-to : IsCutTo MOST_CHILDREN (length children) i rest
   pub rising : Rise (later_lows rest)
 
@@ -41,7 +41,7 @@ first_part children some rise =
       sym (left_first MOST_CHILDREN children) ∙ left_next MOST_CHILDREN t 0 children (some_pieces children some),
     )
 
-pub parts_first : (children rest : List Piece) (later : List Part) (size : ℕ) → 1 ≤ length children → Rise (later_lows children) → later ≡ [] → size ≡ piece_size MOST_CHILDREN (length children) 0 → rest ≡ drop size children
+pub parts_first : (children rest : List Piece) (later : List LaterNode) (size : ℕ) → 1 ≤ length children → Rise (later_lows children) → later ≡ [] → size ≡ piece_size MOST_CHILDREN (length children) 0 → rest ≡ drop size children
     → PartsSoFar children 1 rest later
 parts_first children rest later size some rise none is left =
     let t = length children in
@@ -49,13 +49,13 @@ parts_first children rest later size some rise none is left =
     let size0 = piece_size MOST_CHILDREN t 0 in
     let here : rest ≡ drop size0 children = left ∙ ap (λ n. drop n children) is in
     rw (none, here) (record {
-      parts = ap (λ ps. map part_over (drop 1 ps)) (sym (first_part children some rise).3);
+      parts = ap (λ ps. map later_over (drop 1 ps)) (sym (first_part children some rise).3);
       cut-to = cut_next MOST_CHILDREN t 0 children (some_pieces children some) first;
       rising = later_drop size0 children rise;
     })
 
 -- The next part is within what is left, and a node can stand over it.
-pub part_fits : (children rest : List Piece) (later : List Part) (i size : ℕ) → PartsSoFar children i rest later → i < piece_count MOST_CHILDREN (length children)
+pub part_fits : (children rest : List Piece) (later : List LaterNode) (i size : ℕ) → PartsSoFar children i rest later → i < piece_count MOST_CHILDREN (length children)
     → size ≡ piece_size MOST_CHILDREN (length children) i
     → (size ≤ length rest) × HasFromTo 1 MOST_CHILDREN (take size rest) × Rise (later_lows (take size rest))
 part_fits children rest later i size far less is =
@@ -67,7 +67,7 @@ first_low_is [] d some = absurd (omega arith)
 first_low_is (piece ∷ pieces) d some = refl
 
 -- One part more is made.
-pub parts_next : (children rest part after : List Piece) (later : List Part) (i size : ℕ) (d : Piece) (node : InnerNode) → PartsSoFar children i rest later → i < piece_count MOST_CHILDREN (length children)
+pub parts_next : (children rest part after : List Piece) (later : List LaterNode) (i size : ℕ) (d : Piece) (node : InnerNode) → PartsSoFar children i rest later → i < piece_count MOST_CHILDREN (length children)
     → size ≡ piece_size MOST_CHILDREN (length children) i → part ≡ take size rest → after ≡ drop size rest → node ≡ inner_over part
     → PartsSoFar children (i + 1) after (later ++ record { low = (get_or part 0 d).low; node = node } ∷ [])
 parts_next children rest part after later i size d node far less is front back over =
@@ -77,23 +77,23 @@ parts_next children rest part after later i size d node far less is front back o
     let some = fits.1.0 in
     let long : 1 ≤ length part = subst (λ (l : List Piece). 1 ≤ length l) (sym front) some in
     let lows : (get_or part 0 d).low ≡ first_low (λ piece. piece.low) part = first_low_is part d long in
-    let made : ◌≡◌ {A = Part} (record { low = (get_or part 0 d).low; node = node }) (part_over part) = rw (lows, over) refl in
+    let made : ◌≡◌ {A = LaterNode} (record { low = (get_or part 0 d).low; node = node }) (later_over part) = rw (lows, over) refl in
     let is_part : part ≡ take width rest = front ∙ ap (λ n. take n rest) is in
     let is_after : after ≡ drop width rest = back ∙ ap (λ n. drop n rest) is in
     record {
       parts =
-          append_assoc later (record { low = (get_or part 0 d).low; node = node } ∷ []) (map part_over (pieces_left MOST_CHILDREN t (i + 1) after))
-          ∙ ap (λ (p : Part). later ++ p ∷ map part_over (pieces_left MOST_CHILDREN t (i + 1) after)) (made ∙ ap part_over is_part)
-          ∙ ap (λ l. later ++ part_over (take width rest) ∷ map part_over (pieces_left MOST_CHILDREN t (i + 1) l)) is_after
-          ∙ ap (λ ps. later ++ map part_over ps) (sym (left_next MOST_CHILDREN t i rest less))
+          append_assoc later (record { low = (get_or part 0 d).low; node = node } ∷ []) (map later_over (pieces_left MOST_CHILDREN t (i + 1) after))
+          ∙ ap (λ (p : LaterNode). later ++ p ∷ map later_over (pieces_left MOST_CHILDREN t (i + 1) after)) (made ∙ ap later_over is_part)
+          ∙ ap (λ l. later ++ later_over (take width rest) ∷ map later_over (pieces_left MOST_CHILDREN t (i + 1) l)) is_after
+          ∙ ap (λ ps. later ++ map later_over ps) (sym (left_next MOST_CHILDREN t i rest less))
           ∙ far.parts;
       cut-to = subst (λ l. IsCutTo MOST_CHILDREN t (i + 1) l) (sym is_after) (cut_next MOST_CHILDREN t i rest less far.cut-to);
       rising = subst (λ l. Rise (later_lows l)) (sym is_after) (later_drop width rest far.rising);
     }
 
-pub parts_last : (children rest : List Piece) (later : List Part) (i : ℕ) → PartsSoFar children i rest later → piece_count MOST_CHILDREN (length children) ≤ i → later ≡ map part_over (drop 1 (cut MOST_CHILDREN children))
+pub parts_last : (children rest : List Piece) (later : List LaterNode) (i : ℕ) → PartsSoFar children i rest later → piece_count MOST_CHILDREN (length children) ≤ i → later ≡ map later_over (drop 1 (cut MOST_CHILDREN children))
 parts_last children rest later i far past =
-    sym (append-nil later) ∙ ap (λ ps. later ++ map part_over ps) (sym (left_last MOST_CHILDREN (length children) i rest past)) ∙ far.parts
+    sym (append-nil later) ∙ ap (λ ps. later ++ map later_over ps) (sym (left_last MOST_CHILDREN (length children) i rest past)) ∙ far.parts
 
 -- Where no child is left there is no part.
 pub no_parts : (children : List Piece) → length children ≡ 0 → cut MOST_CHILDREN children ≡ []

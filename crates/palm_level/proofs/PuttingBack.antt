@@ -18,10 +18,10 @@ use Rattle.palm_arena.specs.Reads.{map_of}
 use Rattle.palm_arena.specs.Cells.{Turns}
 use Rattle.palm_arena.proofs.Turning.{turns_then}
 use Rattle.palm_level.specs.Splices.{children_left}
-use Rattle.palm_level.specs.Works.{first_node, part_over}
+use Rattle.palm_level.specs.Works.{first_node, later_over}
 use Rattle.palm_level.specs.Groups.{Group, nodes_left, cells_at, named_pieces, cells_after}
 use Rattle.palm_level.specs.Tasks.{MadeOf, PutsBack, Took, as_node}
-use Rattle.palm_level.specs.declared.node_work.Part.{Part}
+use Rattle.palm_level.specs.declared.node_work.LaterNode.{LaterNode}
 use Rattle.palm_level.specs.declared.node_work.LevelWork.{LevelWork}
 use Rattle.palm_level.proofs.Taking.{given_turns, dropped_turns, turns_more}
 
@@ -62,7 +62,7 @@ first_part_of low left some large = by (cut MOST_CHILDREN left) refl
       nodes = ap (λ b. cond b [] (with_lows (λ (piece : Piece). piece.low) inner_over low (cut MOST_CHILDREN left))) large ∙ ap (with_lows (λ (piece : Piece). piece.low) inner_over low) e;
     }
 
-later_nodes : (parts : List (List Piece)) → map as_node (map part_over parts) ≡ map {B = ℕ × InnerNode} (λ later. (first_low (λ (piece : Piece). piece.low) later, inner_over later)) parts
+later_nodes : (parts : List (List Piece)) → map as_node (map later_over parts) ≡ map {B = ℕ × InnerNode} (λ later. (first_low (λ (piece : Piece). piece.low) later, inner_over later)) parts
 later_nodes [] = refl
 later_nodes (p ∷ ps) = ap (λ (ns : List (ℕ × InnerNode)). (first_low (λ (piece : Piece). piece.low) p, inner_over p) ∷ ns) (later_nodes ps)
 
@@ -114,7 +114,7 @@ back_many level low work a b c removed first pieces node changes path made some 
     let is : is_small LEAST_CHILDREN left ≡ false = ap (is_small LEAST_CHILDREN) (sym made.children) ∙ large in
     let part = first_part_of low left (subst (λ (l : List Piece). 1 ≤ length l) made.children some) is in
     let own : work.lease.node ≡ Inner (inner_over part.part) = made.own ∙ ap (λ ps. Inner (first_node node ps)) part.is in
-    let later : work.later.items ≡ map part_over part.parts = made.later ∙ ap (λ ps. map part_over (drop 1 ps)) part.is in
+    let later : work.later.items ≡ map later_over part.parts = made.later ∙ ap (λ ps. map later_over (drop 1 ps)) part.is in
     let rest : map as_node work.later.items ≡ map (λ later. (first_low (λ piece. piece.low) later, inner_over later)) part.parts = ap (map as_node) later ∙ later_nodes part.parts in
     let nodes : nodes_left low left ≡ (low, inner_over part.part) ∷ map as_node work.later.items = part.nodes ∙ ap (λ (ns : List (ℕ × InnerNode)). (low, inner_over part.part) ∷ ns) (sym rest) in
     let ids = work.lease.id ∷ took.ids in
@@ -132,6 +132,6 @@ back_many level low work a b c removed first pieces node changes path made some 
       },
     )
   where
-    length_as_nodes : (parts : List Part) → length (map as_node parts) ≡ length parts
+    length_as_nodes : (later : List LaterNode) → length (map as_node later) ≡ length later
     length_as_nodes [] = refl
     length_as_nodes (p ∷ ps) = ap suc (length_as_nodes ps)

@@ -19,7 +19,7 @@ use Rattle.palm_arena.proofs.Keeping.{same_id}
 use Rattle.palm_arena.proofs.Turning.{put_turns, drop_turns, vacant_none, lent_none}
 use Rattle.palm_level.specs.Groups.{cells_at, named_pieces}
 use Rattle.palm_level.specs.Tasks.{lent_at, times_if, SameLent, ComesHome, Took, as_node}
-use Rattle.palm_level.specs.declared.node_work.Part.{Part}
+use Rattle.palm_level.specs.declared.node_work.LaterNode.{LaterNode}
 use Rattle.palm_level.specs.declared.node_work.LevelWork.{LevelWork}
 
 -- ---- which places are lent
@@ -103,27 +103,27 @@ many_cells [] (q ∷ qs) id p e = absurd (omega (arith, e))
 many_cells (i ∷ is) [] id p e = absurd (omega (arith, e))
 many_cells (i ∷ is) (q ∷ qs) id p e = ap (λ (cs : List Cell). (i, Inner q.1) ∷ cs) (many_cells is qs id p (omega (arith, e)))
 
-length_nodes : (parts : List Part) → length (map as_node parts) ≡ length parts
+length_nodes : (later : List LaterNode) → length (map as_node later) ≡ length later
 length_nodes [] = refl
 length_nodes (p ∷ ps) = ap suc (length_nodes ps)
 
-pub took_more : (a b c : ArenaState) (before pieces after : List Piece) (parts : List Part) (p : Part) (id : NodeId) → Took a b before pieces parts → IsVacant b.places id
-    → c ≡ record b { places = with_place b.places id (Holds (Inner p.node)); moved = b.moved ++ id ∷ [] } → after ≡ pieces ++ record { low = p.low; id = id } ∷ [] → Took a c before after (parts ++ p ∷ [])
-took_more a b c before pieces after parts p id t vacant is more =
-    let long : length t.ids ≡ length (map as_node parts) = t.many ∙ sym (length_nodes parts) in
-    let nodes : map as_node (parts ++ p ∷ []) ≡ map as_node parts ++ as_node p ∷ [] = map-append as_node parts (p ∷ []) in
-    let turned = turns_more (map_of a.places) (map_of b.places) (map_of (with_place b.places id (Holds (Inner p.node)))) (cells_at t.ids (map as_node parts)) ((id, Inner p.node) ∷ []) t.turns
-    (put_turns b.places id (Inner p.node) (vacant_none b.places id vacant)) in
+pub took_more : (a b c : ArenaState) (before pieces after : List Piece) (later : List LaterNode) (one : LaterNode) (id : NodeId) → Took a b before pieces later → IsVacant b.places id
+    → c ≡ record b { places = with_place b.places id (Holds (Inner one.node)); moved = b.moved ++ id ∷ [] } → after ≡ pieces ++ record { low = one.low; id = id } ∷ [] → Took a c before after (later ++ one ∷ [])
+took_more a b c before pieces after later one id t vacant is more =
+    let long : length t.ids ≡ length (map as_node later) = t.many ∙ sym (length_nodes later) in
+    let nodes : map as_node (later ++ one ∷ []) ≡ map as_node later ++ as_node one ∷ [] = map-append as_node later (one ∷ []) in
+    let turned = turns_more (map_of a.places) (map_of b.places) (map_of (with_place b.places id (Holds (Inner one.node)))) (cells_at t.ids (map as_node later)) ((id, Inner one.node) ∷ []) t.turns
+    (put_turns b.places id (Inner one.node) (vacant_none b.places id vacant)) in
     record {
       ids = t.ids ++ id ∷ [];
-      many = let m = t.many in let n = length-append t.ids (id ∷ []) in let o = length-append parts (p ∷ []) in omega (arith, m, n, o);
+      many = let m = t.many in let n = length-append t.ids (id ∷ []) in let o = length-append later (one ∷ []) in omega (arith, m, n, o);
       pieces =
-          more ∙ ap (λ qs. qs ++ record { low = p.low; id = id } ∷ []) t.pieces ∙ append_assoc before (named_pieces t.ids (map as_node parts)) (record { low = p.low; id = id } ∷ [])
-          ∙ ap (λ qs. before ++ qs) (sym (many_pieces t.ids (map as_node parts) id (as_node p) long) ∙ ap (named_pieces (t.ids ++ id ∷ [])) (sym nodes));
+          more ∙ ap (λ qs. qs ++ record { low = one.low; id = id } ∷ []) t.pieces ∙ append_assoc before (named_pieces t.ids (map as_node later)) (record { low = one.low; id = id } ∷ [])
+          ∙ ap (λ qs. before ++ qs) (sym (many_pieces t.ids (map as_node later) id (as_node one) long) ∙ ap (named_pieces (t.ids ++ id ∷ [])) (sym nodes));
       turns =
-          subst (λ (s : ArenaState). Turns (map_of a.places) (map_of s.places) [] (cells_at (t.ids ++ id ∷ []) (map as_node (parts ++ p ∷ [])))) (sym is)
-          (subst (λ cs. Turns (map_of a.places) (map_of (with_place b.places id (Holds (Inner p.node)))) [] cs)
-          (sym (many_cells t.ids (map as_node parts) id (as_node p) long) ∙ ap (cells_at (t.ids ++ id ∷ [])) (sym nodes)) turned);
+          subst (λ (s : ArenaState). Turns (map_of a.places) (map_of s.places) [] (cells_at (t.ids ++ id ∷ []) (map as_node (later ++ one ∷ [])))) (sym is)
+          (subst (λ cs. Turns (map_of a.places) (map_of (with_place b.places id (Holds (Inner one.node)))) [] cs)
+          (sym (many_cells t.ids (map as_node later) id (as_node one) long) ∙ ap (cells_at (t.ids ++ id ∷ [])) (sym nodes)) turned);
     }
 
 -- A node is taken: no place is lent more or less.

@@ -15,10 +15,10 @@ use Rattle.palm_arena.specs.ArenaState.{ArenaState, IsLent, place_at, node_at, w
 use Rattle.palm_arena.specs.Reads.{map_of, inner_in, same_place}
 use Rattle.palm_arena.specs.Cells.{Cell, Turns}
 use Rattle.palm_level.specs.Splices.{children_left}
-use Rattle.palm_level.specs.Works.{IsReady, HasRun, first_node, parts_left, part_over}
+use Rattle.palm_level.specs.Works.{IsReady, HasRun, first_node, parts_left, later_over}
 use Rattle.palm_level.specs.Groups.{Touched, Group, cells_at, named_pieces, is_still, group_nodes, cells_before, cells_after, group_change, group_removed}
 use Rattle.palm_level.specs.Plans.{CanWork, touched_by, planned_key}
-use Rattle.palm_level.specs.declared.node_work.Part.{Part}
+use Rattle.palm_level.specs.declared.node_work.LaterNode.{LaterNode}
 use Rattle.palm_level.specs.declared.node_work.LevelWork.{LevelWork}
 use Rattle.palm_level.specs.declared.plan.Planned.{Planned}
 use Rattle.palm_level.specs.declared.plan.Room.{Room}
@@ -94,7 +94,7 @@ WorkIsDone nodes id changes (Some work) =
     × ((node : InnerNode) → nodes id ≡ Some (Inner node)
     → (work.lease.node ≡ Inner (first_node node (parts_left node changes)))
     × (work.children.items ≡ children_left node changes)
-    × (work.later.items ≡ map part_over (drop 1 (parts_left node changes))))
+    × (work.later.items ≡ map later_over (drop 1 (parts_left node changes))))
 
 -- A task is done: its work has made its node anew.
 abbrev pub TaskIsDone : (NodeId → Option Node) → Option Task → Type 0
@@ -179,16 +179,16 @@ pub record Finishes (nodes : NodeId → Option Node) (level : ℕ) (touched : To
 
 -- ---- giving back
 
--- A node and its low, of a later part.
-abbrev pub as_node : Part → ℕ × InnerNode
-as_node part = (part.low, part.node)
+-- A later node, after its low.
+abbrev pub as_node : LaterNode → ℕ × InnerNode
+as_node later = (later.low, later.node)
 
--- Parts took ids, and were listed as pieces.
-pub record Took (old new : ArenaState) (before after : List Piece) (parts : List Part) : Type 0 where
+-- Later nodes took ids, and were listed as pieces.
+pub record Took (old new : ArenaState) (before after : List Piece) (later : List LaterNode) : Type 0 where
   pub ids : List NodeId
-  pub many : length ids ≡ length parts
-  pub pieces : after ≡ before ++ named_pieces ids (map as_node parts)
-  pub turns : Turns (map_of old.places) (map_of new.places) [] (cells_at ids (map as_node parts))
+  pub many : length ids ≡ length later
+  pub pieces : after ≡ before ++ named_pieces ids (map as_node later)
+  pub turns : Turns (map_of old.places) (map_of new.places) [] (cells_at ids (map as_node later))
 
 -- As many places are lent as before, each the same.
 abbrev pub SameLent : List Place → List Place → Type 0
@@ -198,7 +198,7 @@ SameLent old new = (id : NodeId) → lent_at (place_at new id) ≡ lent_at (plac
 pub record MadeOf (node : InnerNode) (changes : List Change) (work : LevelWork) : Type 0 where
   pub own : work.lease.node ≡ Inner (first_node node (parts_left node changes))
   pub children : work.children.items ≡ children_left node changes
-  pub later : work.later.items ≡ map part_over (drop 1 (parts_left node changes))
+  pub later : work.later.items ≡ map later_over (drop 1 (parts_left node changes))
 
 -- A group's node was put back, with what is left of it under its ids.
 pub record PutsBack (level : ℕ) (group : Group) (old new : ArenaState) (before after : List Removed) (pieces : List Piece) : Type 0 where

@@ -10,12 +10,12 @@ use Rattle.palm_node.specs.declared.id.Piece.{Piece}
 use Rattle.palm_node.specs.declared.node.Node.TheVariants.{Inner}
 use Rattle.palm_level.specs.Splices.{children_left, PlacesRise}
 use Rattle.palm_node.specs.declared.change.Change.{Change}
-use Rattle.palm_level.specs.declared.node_work.Part.{Part}
+use Rattle.palm_level.specs.declared.node_work.LaterNode.{LaterNode}
 use Rattle.palm_level.specs.declared.node_work.LevelWork.{LevelWork}
 
--- The low of a part's first piece, and the node over it. So of (3, a), (20, b) it is 3 and the node a, b with the separator 20.
-abbrev pub part_over : List Piece → Part
-part_over pieces = record { low = first_low (λ piece. piece.low) pieces; node = inner_over pieces }
+-- The later node over pieces. So over (3, a), (20, b) it begins at 3, and its children are a and b with the separator 20.
+abbrev pub later_over : List Piece → LaterNode
+later_over pieces = record { low = first_low (λ piece. piece.low) pieces; node = inner_over pieces }
 
 -- The node that keeps its id: the one over the first part, and where there is no part the node as it was.
 abbrev pub first_node : InnerNode → List (List Piece) → InnerNode
@@ -49,4 +49,4 @@ pub record HasRun (before after : LevelWork) : Type 0 where
   pub made : (node : InnerNode) → before.lease.node ≡ Inner node
       → (after.lease.node ≡ Inner (first_node node (parts_left node before.changes.now)))
       × (after.children.items ≡ children_left node before.changes.now)
-      × (after.later.items ≡ map part_over (drop 1 (parts_left node before.changes.now)))
+      × (after.later.items ≡ map later_over (drop 1 (parts_left node before.changes.now)))

@@ -5,7 +5,7 @@ ghost use Rattle.palm_base.specs.Cut.{piece_count, cut};
 ghost use Rattle.std.specs.List.{AllByRecursion};
 ghost use Rattle.palm_node.specs.InnerNode.{IsInner, Rise, later_lows};
 ghost use Rattle.palm_level.specs.Splices.{last_step, children_of, children_left, PlacesRise};
-ghost use Rattle.palm_level.specs.Works.{part_over, first_node, parts_left, CanSplice, IsReady, HasRun};
+ghost use Rattle.palm_level.specs.Works.{later_over, first_node, parts_left, CanSplice, IsReady, HasRun};
 
 use palm_arena::Lease;
 use palm_base::MOST_CHILDREN;
@@ -13,7 +13,7 @@ use palm_node::{Change, Inner, Node, NodeId, Path, Piece, piece_size, pieces};
 
 /// A later node of those that stand for one, which has no id yet.
 #[derive(Drop)]
-pub struct Part {
+pub struct LaterNode {
     /// The packed key at which its range begins.
     pub low: u64,
     /// Its children and the keys between them.
@@ -78,18 +78,18 @@ pub fn splice(inner: &Inner, changes: &[Change], children: &mut Vec<Piece>)
 }
 
 // The nodes over the parts that children are cut into, past the first part.
-fn cut_later(children: &[Piece], later: &mut Vec<Part>)
+fn cut_later(children: &[Piece], later: &mut Vec<LaterNode>)
     requires some { 1 ≤ length children.now }
     requires rising { Rise (later_lows children.now) }
     requires none { later.old.items ≡ [] }
     requires room { piece_count MOST_CHILDREN (length children.now) ≤ vec_capacity later.old + 1 }
-    ensures { later.new.items ≡ map part_over (drop 1 (cut MOST_CHILDREN children.now)) }
+    ensures { later.new.items ≡ map later_over (drop 1 (cut MOST_CHILDREN children.now)) }
 {
     let count = pieces(MOST_CHILDREN, children.len());
     let (_, mut rest) = children.split_at(piece_size(MOST_CHILDREN, children.len(), 0));
     for i in 1..count {
         let (part, after) = rest.split_at(piece_size(MOST_CHILDREN, children.len(), i));
-        later.push_reserved(Part {
+        later.push_reserved(LaterNode {
             low: part[0].low,
             node: Inner::over(part),
         });
@@ -99,7 +99,12 @@ fn cut_later(children: &[Piece], later: &mut Vec<Part>)
 
 // Makes a node anew over what stands for its children: itself over the first part, and a node over each later one.
 // Where no child is left it stays as it was.
-fn rework(inner: &mut Inner, changes: &[Change], children: &mut Vec<Piece>, later: &mut Vec<Part>)
+fn rework(
+    inner: &mut Inner,
+    changes: &[Change],
+    children: &mut Vec<Piece>,
+    later: &mut Vec<LaterNode>,
+)
     requires can { CanSplice inner.old changes.now }
     requires no_children { children.old.items ≡ [] }
     requires no_later { later.old.items ≡ [] }
@@ -107,7 +112,7 @@ fn rework(inner: &mut Inner, changes: &[Change], children: &mut Vec<Piece>, late
     requires later_room { piece_count MOST_CHILDREN (length (children_left inner.old changes.now)) ≤ vec_capacity later.old + 1 }
     ensures node { inner.new ≡ first_node inner.old (parts_left inner.old changes.now) }
     ensures children { children.new.items ≡ children_left inner.old changes.now }
-    ensures later { later.new.items ≡ map part_over (drop 1 (parts_left inner.old changes.now)) }
+    ensures later { later.new.items ≡ map later_over (drop 1 (parts_left inner.old changes.now)) }
 {
     splice(inner, changes, children);
     if children.is_empty() {
@@ -127,7 +132,7 @@ pub struct LevelWork<'a> {
     /// Room for its children, which are listed here when it is made anew.
     pub children: Vec<Piece>,
     /// Room for the nodes past the first that the children are cut into.
-    pub later: Vec<Part>,
+    pub later: Vec<LaterNode>,
 }
 
 impl LevelWork<'_> {

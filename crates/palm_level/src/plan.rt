@@ -9,7 +9,7 @@ ghost use Rattle.palm_level.specs.Runs.{runs};
 ghost use Rattle.palm_level.specs.Groups.{touched_of, is_alone, is_still, low_at};
 ghost use Rattle.palm_level.specs.Plans.{Fits, IsInnerAt, CanWork, IsRoomAt, planned_key, touched_by, piece_total, HasRoom, IsPlanned};
 
-use crate::node_work::{Part, last_step_of, splice};
+use crate::node_work::{LaterNode, last_step_of, splice};
 use palm_arena::Arena;
 use palm_base::{MOST_CHILDREN, NoMemory};
 use palm_node::{Change, Inner, Node, NodeId, Path, Piece, PieceList, pieces};
@@ -34,7 +34,7 @@ pub struct Room {
     /// For what stands for its children.
     pub children: Vec<Piece>,
     /// For the nodes past the first that these are cut into.
-    pub later: Vec<Part>,
+    pub later: Vec<LaterNode>,
 }
 
 /// A node with the room to make it anew, and without it where it stays as it is.

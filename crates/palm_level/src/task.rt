@@ -11,7 +11,7 @@ ghost use Rattle.palm_arena.specs.Reads.{map_of};
 ghost use Rattle.palm_level.specs.Plans.{IsPlanned};
 ghost use Rattle.palm_level.specs.Tasks.{StandsForAny, FinishesAny, planned_id, Distinct, HasLent, IsTask, later_of, HasFinished, TaskIsLent, TaskComesHome, Took, SameLent, PutsBackAny, later_count, WorkIsLent, Starts, IsThere, LentTo, ComesHome, WorkMayRun, TaskRan};
 
-use crate::node_work::{LevelWork, Part};
+use crate::node_work::{LaterNode, LevelWork};
 use crate::plan::{Parent, Planned};
 use palm_arena::Arena;
 use palm_base::{LEAST_CHILDREN, NoMemory, Steps};
@@ -76,7 +76,7 @@ pub fn is_few(children: &[Piece]) -> bool
 // Takes ids for the later nodes that stand for one, and lists them.
 fn take_later<L: Ledger>(
     arena: &mut Arena,
-    later: Vec<Part>,
+    later: Vec<LaterNode>,
     pieces: &mut PieceList,
     steps: &mut Steps<L>,
 ) -> Result<(), NoMemory>
@@ -87,9 +87,9 @@ fn take_later<L: Ledger>(
     ensures ticks { steps.new ≤ steps.old + vec_len later }
     ensures moved { length arena.new.moved + steps.old ≤ length arena.old.moved + steps.new }
 {
-    for part in later {
-        let id = arena.take(Node::Inner(part.node), steps)?;
-        pieces.push(Piece { low: part.low, id })?;
+    for one in later {
+        let id = arena.take(Node::Inner(one.node), steps)?;
+        pieces.push(Piece { low: one.low, id })?;
     }
     Ok(())
 }

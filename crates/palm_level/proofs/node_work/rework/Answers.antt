@@ -5,7 +5,7 @@ use Rattle.palm_base.specs.Cut.{cut, piece_size}
 use Rattle.palm_base.specs.declared.bounds.TheConstants.{MOST_CHILDREN}
 use Rattle.palm_node.specs.InnerNode.{later_lows}
 use Rattle.palm_level.specs.Splices.{children_left}
-use Rattle.palm_level.specs.Works.{first_node, part_over}
+use Rattle.palm_level.specs.Works.{first_node, later_over}
 use Rattle.palm_level.proofs.LaterParts.{no_parts, first_fits, some_item, parts_made}
 use Rattle.palm_node.proofs.RisingLows.{rise_increasing}
 use Rattle.palm_level.proofs.node_work.rework.Goals as goal
@@ -20,7 +20,7 @@ pub returns-then-is_empty-clause-later : goal.returns-then-is_empty-clause-later
 returns-then-is_empty-clause-later c =
     let none = eqb-true (vec_len c.splice.new.children) 0 (sym c.is_empty.ensures ∙ c.if-is_empty.true) in
     let parts = no_parts c.splice.new.children.items (omega (arith, none)) in
-    c.requires.no_later ∙ ap (λ ps. map part_over (drop 1 ps)) (sym parts ∙ ap (cut MOST_CHILDREN) c.splice.ensures)
+    c.requires.no_later ∙ ap (λ ps. map later_over (drop 1 ps)) (sym parts ∙ ap (cut MOST_CHILDREN) c.splice.ensures)
 
 pub slice_bounds-over-end : goal.slice_bounds-over-end
 slice_bounds-over-end c =
