@@ -9,7 +9,7 @@ pub type PieceList = ItemList<Piece>;
 /// The changes of a level, in order. Contracts see the list.
 pub type ChangeList = ItemList<Change>;
 
-/// The nodes that were removed, in order. Contracts see the list.
+/// The inner nodes that were removed with children left, in order. Contracts see the list.
 pub type RemovedList = ItemList<Removed>;
 
 /// What a pass makes of a node.
@@ -23,7 +23,8 @@ pub struct Change {
     pub pieces: PieceList,
 }
 
-/// A node that a pass removed.
+/// An inner node that a pass removed since too few children were left to it. The children still stand below it. A removed leaf,
+/// and an inner node that was left with none, are dropped at once and not listed.
 #[derive(Clone, Copy, Debug, PartialEq, Eq)]
 pub struct Removed {
     /// Its level, counted from the leaves at 1.
@@ -39,6 +40,6 @@ pub struct Changes {
     pub nodes: ChangeList,
     /// The rows that are left without a leaf.
     pub loose: RowList,
-    /// The nodes that it removed.
+    /// The inner nodes that it removed with children left. Those that it dropped at once aren't listed.
     pub removed: RemovedList,
 }
