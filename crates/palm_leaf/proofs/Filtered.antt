@@ -1,6 +1,6 @@
--- Lists that are filtered twice, and what holds of what a filter leaves.
+-- Lists that are filtered twice.
 use Rattle.std.proofs.Common.{◌≡◌, Bool, true, false, cond, List, [], ◌∷◌, refl, ap}
-use Rattle.std.specs.List.{filter, AllByRecursion}
+use Rattle.std.specs.List.{filter}
 
 -- A filter that lets through all that another does leaves what that one leaves.
 pub filter-wider : {X : Type 0} (p q : X → Bool) (xs : List X) → ((x : X) → p x ≡ true → q x ≡ true) → filter p (filter q xs) ≡ filter p xs
@@ -12,11 +12,3 @@ filter-wider {X} p q (x ∷ xs) h = by (filter-wider p q xs h) (p x) refl (q x) 
     by rest true f false g = let t = h x f in absurd cc
     by rest false f true g = rw f rest
     by rest false f false g = rest
-
-pub all_filter : {X : Type 0} (P : X → Type 0) (p : X → Bool) (xs : List X) → AllByRecursion P xs → AllByRecursion P (filter p xs)
-all_filter P p [] a = tt
-all_filter {X} P p (x ∷ xs) a = by (all_filter P p xs a.1) (p x)
-  where
-    by : AllByRecursion P (filter p xs) → (b : Bool) → AllByRecursion P (cond b (x ∷ filter p xs) (filter p xs))
-    by rest true = (a.0, rest)
-    by rest false = rest

@@ -4,9 +4,9 @@ use Rattle.std.proofs.Common.{◌≡◌, ℕ, ◌≤◌, Bool, true, false, cond
 use Rattle.std.specs.List.{filter, AllByRecursion}
 use Rattle.std.proofs.lemmas.Bool.{cases_lt, lt-ltb, le-ltb, lt-leb, le-leb}
 use Rattle.std.proofs.lemmas.List.Elements.{filter-append}
+use Rattle.palm_base.proofs.Every.{every_filter}
 use Rattle.palm_route.proofs.Routings.{filter_twice}
 use Rattle.palm_leaf.specs.Spread.{spread}
-use Rattle.palm_leaf.proofs.Filtered.{all_filter}
 
 -- The keys never fall. So 3, 3, 5 don't, and 5, 3 do.
 abbrev pub NeverFall : {X : Type 0} → (X → ℕ) → List X → Type 0
@@ -18,7 +18,7 @@ fall_filter k p [] never = tt
 fall_filter {X} k p (x ∷ xs) never = by (p x) (fall_filter k p xs never.1)
   where
     by : (b : Bool) → NeverFall k (filter p xs) → NeverFall k (cond b (x ∷ filter p xs) (filter p xs))
-    by true rest = (all_filter (λ later. k x ≤ k later) p xs never.0, rest)
+    by true rest = (every_filter (λ later. k x ≤ k later) (λ later. k x ≤ k later) p (λ later above passes. above) xs never.0, rest)
     by false rest = rest
 
 -- From a low on nothing is below it, and all is there.

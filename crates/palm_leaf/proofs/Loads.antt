@@ -8,7 +8,7 @@ use Rattle.std.proofs.lemmas.List.Concat.{flat_map-append}
 use mathlib.Core.List.{map-append}
 use Rattle.palm_base.specs.Pass.{edit_key, goes_left, goes_right}
 use Rattle.palm_base.specs.Lawful.{next_low, Sound, InOrder, Root, IsLawful}
-use Rattle.palm_base.proofs.Every.{every_append}
+use Rattle.palm_base.proofs.Every.{every_append, every_filter}
 use Rattle.palm_base.proofs.SoundNodes.{in_order_proper}
 use Rattle.palm_base.specs.declared.bounds.TheConstants.{LEAST_CHILDREN}
 use Rattle.palm_base.specs.declared.call.Call.{Call}
@@ -34,7 +34,7 @@ use Rattle.palm_route.specs.declared.part.Group.{Group}
 use Rattle.palm_route.proofs.Routings.{filter_twice}
 use Rattle.palm_leaf.specs.Routed.{GoesByKey, HasKey, IsRouted, written_low}
 use Rattle.palm_leaf.specs.Loads.{LeafLoad, IsLoad, load_group, Loads}
-use Rattle.palm_leaf.proofs.Filtered.{filter-wider, all_filter}
+use Rattle.palm_leaf.proofs.Filtered.{filter-wider}
 
 -- ---- parts beside their edits
 
@@ -227,9 +227,9 @@ children_hold n ih path id i low first high child [] edits parts order are keys 
 children_hold n ih path id i low first high child (next ∷ children) edits parts order are keys is =
     let site : Site n = record { path = path ++ (id, i) ∷ []; low = child.0; place = child.1; edits = filter (goes_left next.0) edits } in
     every_append IsLoad (loads_under n site low (filter (λ p. ltb p.key next.0) parts)) _
-    (ih site low first next.0 (filter (λ p. ltb p.key next.0) parts) order.0.1 (ap (filter (goes_left next.0)) are ∙ sym (edits-filter (λ k. ltb k next.0) parts keys)) (all_filter HasKey (λ p. ltb p.key next.0) parts keys) is)
+    (ih site low first next.0 (filter (λ p. ltb p.key next.0) parts) order.0.1 (ap (filter (goes_left next.0)) are ∙ sym (edits-filter (λ k. ltb k next.0) parts keys)) (every_filter HasKey HasKey (λ p. ltb p.key next.0) (λ p is passes. is) parts keys) is)
     (children_hold n ih path id (suc i) next.0 next.0 high next children (filter (goes_right next.0) edits) (filter (λ p. leb next.0 p.key) parts) order.1
-    (ap (filter (goes_right next.0)) are ∙ sym (edits-filter (λ k. leb next.0 k) parts keys)) (all_filter HasKey (λ p. leb next.0 p.key) parts keys) (sym (written_later path id i next.0)))
+    (ap (filter (goes_right next.0)) are ∙ sym (edits-filter (λ k. leb next.0 k) parts keys)) (every_filter HasKey HasKey (λ p. leb next.0 p.key) (λ p is passes. is) parts keys) (sym (written_later path id i next.0)))
 
 nodes_hold : (n : ℕ) → LoadsHold n
 nodes_hold zero site low first high parts sound are keys is = (record { edits-are = are; low-is = is; keys = keys }, tt)

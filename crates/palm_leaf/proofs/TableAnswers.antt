@@ -19,7 +19,7 @@ use Rattle.palm_route.specs.declared.part.Ask.{Ask}
 use Rattle.palm_route.specs.declared.part.Ask.TheVariants as ask
 use Rattle.palm_route.specs.declared.part.Part.{Part}
 use Rattle.palm_base.specs.declared.bounds.TheConstants.{LEAST_CHILDREN}
-use Rattle.palm_base.proofs.Every.{every_append, every_weaker}
+use Rattle.palm_base.proofs.Every.{every_append, every_filter, every_weaker}
 use Rattle.palm_base.proofs.SoundNodes.{in_order_proper, sound_rises, in_order_rises}
 use Rattle.palm_base.proofs.RisingRows.{rising_range, under_range, from_range}
 use mathlib.Core.List.{map-append}
@@ -28,7 +28,7 @@ use Rattle.palm_arena.specs.Placed.{Placed, value_in, values}
 use Rattle.palm_arena.specs.Sites.{Site}
 use Rattle.palm_route.proofs.Routings.{filter_none, filter_on, filter_twice}
 use Rattle.palm_leaf.specs.Loads.{LeafLoad}
-use Rattle.palm_leaf.proofs.Filtered.{filter-wider, all_filter}
+use Rattle.palm_leaf.proofs.Filtered.{filter-wider}
 use Rattle.palm_leaf.proofs.Loads.{loads_of_children, loads_under}
 use Rattle.palm_leaf.specs.Routed.{GoesByKey, HasKey}
 use Rattle.palm_leaf.specs.Spread.{spread}
@@ -259,8 +259,8 @@ children_answer n ih path id i low high child (next ∷ children) edits parts ke
     let under : Under next.0 left = under_range low next.0 left (rising_range low next.0 left (sound_rises n low next.0 (value_in n child.1.1) order.0.1)) in
     let from : From next.0 right = from_range next.0 high right (rising_range next.0 high right (in_order_rises n next.0 high (values n (next ∷ children)) order.1)) in
     answers_join low next.0 high left right parts (loads_under n site low (filter (λ p. ltb p.key next.0) parts)) _ (omega (arith, proper)) keys under from
-    (ih site low next.0 (filter (λ p. ltb p.key next.0) parts) (all_filter HasKey (λ p. ltb p.key next.0) parts keys) order.0.0 order.0.1)
-    (children_answer n ih path id (suc i) next.0 high next children (filter (goes_right next.0) edits) (filter (λ p. leb next.0 p.key) parts) (all_filter HasKey (λ p. leb next.0 p.key) parts keys) order.1)
+    (ih site low next.0 (filter (λ p. ltb p.key next.0) parts) (every_filter HasKey HasKey (λ p. ltb p.key next.0) (λ p is passes. is) parts keys) order.0.0 order.0.1)
+    (children_answer n ih path id (suc i) next.0 high next children (filter (goes_right next.0) edits) (filter (λ p. leb next.0 p.key) parts) (every_filter HasKey HasKey (λ p. leb next.0 p.key) (λ p is passes. is) parts keys) order.1)
 
 pub nodes_answer : (n : ℕ) → NodesAnswer n
 nodes_answer zero site low high parts keys less sound = record {

@@ -1,6 +1,7 @@
 -- The work on the parents of a level's changes leads to the changes of the next, and takes no more than these tell.
-use Rattle.std.proofs.Common.{◌≡◌, ℕ, zero, suc, Bool, true, false, cond, ◌&&◌, List, [], ◌∷◌, ◌++◌, length, map, refl, sym, ap, ◌∙◌, eqb-true, Option, Some}
+use Rattle.std.proofs.Common.{◌≡◌, ℕ, zero, suc, Bool, true, false, cond, List, [], ◌∷◌, ◌++◌, length, map, refl, sym, ap, ◌∙◌, eqb-true, Option, Some}
 use Rattle.std.specs.List.{flat_map, AllByRecursion, filter}
+use Rattle.std.proofs.lemmas.Bool.{and_parts}
 use Rattle.std.proofs.lemmas.List.{append-nil}
 use Rattle.palm_base.specs.Cut.{cut}
 use Rattle.palm_base.specs.Tree.{Subtree}
@@ -72,10 +73,6 @@ alone_own l r passed alone = by r.pieces passed alone
         let id : p.1.0 ≡ r.site.place.0 = same_id p.1.0 r.site.place.0 (eqb-true p.1.0.place r.site.place.0.place alone) in
         rw (low, id) refl
 
-both_true : (a b : Bool) → (a && b) ≡ true → (a ≡ true) × (b ≡ true)
-both_true true b e = (refl, e)
-both_true false b e = absurd cc
-
 -- Where each changed child stands for itself alone, what is left of the children is the children.
 pub still_bare : (W : NodeId → Bool) (l : ℕ) (rs : List (Result l)) → AllByRecursion (StandsForItself W l) rs → AllByRecursion (IsPassed l) rs → is_still (changes_in W l rs) ≡ true → flat_map (λ r. bare r.pieces) rs ≡ map own rs
 still_bare W l [] still passed alone = refl
@@ -84,7 +81,7 @@ still_bare W l (r ∷ rs) still passed alone = by (is_hit W l r) refl alone (sti
     by : (b : Bool) → is_hit W l r ≡ b → is_still (map (change_of l) (cond b (r ∷ filter (is_hit W l) rs) (filter (is_hit W l) rs))) ≡ true
         → (is_still (changes_in W l rs) ≡ true → flat_map (λ r. bare r.pieces) rs ≡ map own rs) → bare r.pieces ++ flat_map (λ r. bare r.pieces) rs ≡ own r ∷ map own rs
     by true h alone rest =
-        let both = both_true (is_alone r.site.place.0 (bare r.pieces)) (is_still (changes_in W l rs)) alone in
+        let both = and_parts (is_alone r.site.place.0 (bare r.pieces)) (is_still (changes_in W l rs)) alone in
         ap (λ ps. ps ++ flat_map (λ r. bare r.pieces) rs) (alone_own l r passed.0 both.0) ∙ ap (λ ps. own r ∷ ps) (rest both.1)
     by false h alone rest = ap (λ ps. bare ps ++ flat_map (λ r. bare r.pieces) rs) (still.0 h) ∙ ap (λ ps. own r ∷ ps) (rest alone)
 

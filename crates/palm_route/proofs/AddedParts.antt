@@ -4,14 +4,13 @@ use Rattle.std.specs.Prelude.{slice_set}
 use Rattle.palm_route.specs.declared.part.Routed.{Routed}
 use Rattle.palm_route.specs.declared.part.Group.{Group}
 use Rattle.palm_route.specs.Runs.{group_with, grown, with_routed}
-use Rattle.std.proofs.lemmas.Bool.{ne_eqb}
-use Rattle.palm_route.proofs.Routings.{eqb_same}
+use Rattle.std.proofs.lemmas.Bool.{eq-eqb, ne_eqb}
 
 pub last_grows : (groups : List Group) (n : ℕ) (last new : Group) (routed : Routed) → n + 1 ≡ length groups → last ≡ get_or groups n last → last.low ≡ routed.low
     → new ≡ grown last routed → slice_set groups n new ≡ with_routed groups routed
 last_grows [] n last new routed count at same is = absurd (omega (arith, count))
 last_grows (group ∷ []) zero last new routed count at same is =
-    rw (eqb_same group.low routed.low (sym (ap (λ (g : Group). g.low) at) ∙ same)) (ap (λ (g : Group). g ∷ []) (is ∙ ap (λ (g : Group). grown g routed) at))
+    rw (eq-eqb group.low routed.low (sym (ap (λ (g : Group). g.low) at) ∙ same)) (ap (λ (g : Group). g ∷ []) (is ∙ ap (λ (g : Group). grown g routed) at))
 last_grows (group ∷ []) (suc n) last new routed count at same is = absurd (omega (arith, count))
 last_grows (group ∷ next ∷ groups) zero last new routed count at same is = absurd (omega (arith, count))
 last_grows (group ∷ next ∷ groups) (suc n) last new routed count at same is =

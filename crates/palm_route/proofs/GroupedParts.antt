@@ -2,7 +2,7 @@
 -- parts in the order of their leaves make them one after another.
 use Rattle.std.proofs.Common.{◌≡◌, ℕ, ◌<◌, ◌≤◌, Bool, true, false, ltb, leb, eqb, List, [], ◌∷◌, ◌++◌, map, filter, refl, sym, ap, subst, arith, append_assoc, ◌∙◌, ◌⊎◌, inl, inr}
 use Rattle.std.specs.List.{AllByRecursion, fold}
-use Rattle.std.proofs.lemmas.Bool.{cases_lt, lt-ltb, le-ltb, lt-leb, le-leb, ne_eqb}
+use Rattle.std.proofs.lemmas.Bool.{cases_lt, lt-ltb, le-ltb, lt-leb, le-leb, eq-eqb, ne_eqb}
 use Rattle.std.proofs.lemmas.Option.{same_Some}
 use Rattle.std.proofs.lemmas.List.{append-nil, map-append}
 use Rattle.std.proofs.lemmas.List.Elements.{filter-append}
@@ -13,7 +13,7 @@ use Rattle.palm_route.specs.declared.part.Routed.{Routed}
 use Rattle.palm_route.specs.declared.part.Group.{Group}
 use Rattle.palm_route.specs.Groups.{place_of, IsRoutedTo, LowsRise, group_at, groups_of}
 use Rattle.palm_route.specs.Runs.{with_routed, runs_of}
-use Rattle.palm_route.proofs.Routings.{eqb_same, at_first, at_later, above_first, left_test, all_later, filter_on, filter_map, filter_twice, filter_all, filter_none}
+use Rattle.palm_route.proofs.Routings.{at_first, at_later, above_first, left_test, all_later, filter_on, filter_map, filter_twice, filter_all, filter_none}
 
 -- The parts without their leaves.
 abbrev pub parts_in : List Routed → List Part
@@ -33,7 +33,7 @@ at_alone : (place : LeafPlace) (xs : List Routed) → AllByRecursion (IsRoutedTo
 at_alone place xs all =
     filter_all (λ (one : Routed). eqb one.low place.low) xs
     (every_weaker (IsRoutedTo (place ∷ [])) (λ (one : Routed). eqb one.low place.low ≡ true)
-    (λ one is. eqb_same one.low place.low (sym (ap (λ (p : LeafPlace). p.low) (same_Some place (place_of one) is)))) xs all)
+    (λ one is. eq-eqb one.low place.low (sym (ap (λ (p : LeafPlace). p.low) (same_Some place (place_of one) is)))) xs all)
 
 left_parts : (first next : LeafPlace) (places : List LeafPlace) (xs : List Routed) → LowsRise (first ∷ next ∷ places) → AllByRecursion (IsRoutedTo (first ∷ next ∷ places)) xs
     → filter (λ (part : Part). ltb part.key next.low) (parts_in xs) ≡ parts_in (filter (λ (one : Routed). eqb one.low first.low) xs)
@@ -72,7 +72,7 @@ none_grouped (first ∷ next ∷ places) = none_grouped (next ∷ places)
 
 one_more : (routed : Routed) (parts : List Part) → group_at (place_of routed) (parts ++ routed.part ∷ []) ≡ with_routed (group_at (place_of routed) parts) routed
 one_more routed [] = refl
-one_more routed (part ∷ parts) = rw (eqb_same routed.low routed.low refl) refl
+one_more routed (part ∷ parts) = rw (eq-eqb routed.low routed.low refl) refl
 
 at_place : (place : LeafPlace) (routed : Routed) (parts : List Part) → place ≡ place_of routed → group_at place (parts ++ routed.part ∷ []) ≡ with_routed (group_at place parts) routed
 at_place place routed parts is =

@@ -1,8 +1,7 @@
 -- Parts that are routed to leaves whose lows rise: those left of the second leaf are at the first.
 use Rattle.std.proofs.Common.{◌≡◌, ℕ, ◌<◌, ◌≤◌, Bool, true, false, ltb, leb, eqb, cond, List, [], ◌∷◌, map, filter, Some, refl, sym, ap, subst, arith, ◌∙◌, ◌⊎◌, inl, inr}
 use Rattle.std.specs.List.{AllByRecursion}
-use Rattle.std.proofs.lemmas.Bool.Decides.{nat_tests}
-use Rattle.std.proofs.lemmas.Bool.{cases_lt, lt-ltb, le-ltb, lt-leb, le-leb, ne_eqb, leb-true}
+use Rattle.std.proofs.lemmas.Bool.{cases_lt, lt-ltb, le-ltb, lt-leb, le-leb, eq-eqb, ne_eqb, leb-true}
 use Rattle.std.proofs.lemmas.Option.{same_Some}
 use Rattle.palm_arena.specs.Leaves.{LeafPlace, leaf_for}
 use Rattle.palm_base.proofs.Every.{every_filter}
@@ -37,9 +36,6 @@ above_first first next places routed up is least = low_above routed.part.key fir
 
 -- ---- the two sides as tests
 
-pub eqb_same : (a b : ℕ) → a ≡ b → eqb a b ≡ true
-eqb_same a b e = grind (arith, nat_tests)
-
 -- Left of the second leaf's low are the parts at the first leaf.
 pub left_test : (first next : LeafPlace) (places : List LeafPlace) → LowsRise (first ∷ next ∷ places) → (routed : Routed) → IsRoutedTo (first ∷ next ∷ places) routed
     → ltb routed.part.key next.low ≡ eqb routed.low first.low
@@ -48,7 +44,7 @@ left_test first next places up routed is = by (cases_lt routed.part.key next.low
     by : (routed.part.key < next.low) ⊎ (next.low ≤ routed.part.key) → ltb routed.part.key next.low ≡ eqb routed.low first.low
     by (inl less) =
         let same : routed.low ≡ first.low = sym (ap (λ (p : LeafPlace). p.low) (at_first first next places routed is less)) in
-        lt-ltb routed.part.key next.low less ∙ sym (eqb_same routed.low first.low same)
+        lt-ltb routed.part.key next.low less ∙ sym (eq-eqb routed.low first.low same)
     by (inr least) =
         let above = above_first first next places routed up is least in
         le-ltb routed.part.key next.low least ∙ sym (ne_eqb routed.low first.low (λ e. omega (arith, e, above)))

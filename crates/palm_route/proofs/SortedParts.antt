@@ -4,7 +4,7 @@ use Rattle.std.specs.List.{AllByRecursion}
 use Rattle.std.specs.List.Sorted.{IsPermutation, IsNonDecreasingBy, IsSortedByKey, IsStableByKey, ties}
 use Rattle.std.specs.Ordering.{nat_cmp, is_lt}
 use Rattle.std.specs.declared.cmp.Ordering.TheVariants.{Less, Equal, Greater}
-use Rattle.std.proofs.lemmas.Bool.{cases_lt, lt-ltb, le-ltb, ne_eqb}
+use Rattle.std.proofs.lemmas.Bool.{cases_lt, lt-ltb, le-ltb, eq-eqb, ne_eqb}
 use Rattle.std.proofs.lemmas.List.{append-nil, take_all, drop_all}
 use Rattle.std.proofs.lemmas.List.Elements.{filter_agree, All-from_recursion, recursion_from_All}
 use Rattle.std.proofs.lemmas.List.Sorted.{IsNonDecreasingBy-from_sort, All-permutation}
@@ -15,7 +15,7 @@ use Rattle.palm_route.specs.Runs.{runs_of}
 use Rattle.palm_route.specs.declared.grouping.Mark.{Mark}
 use Rattle.palm_route.specs.Marks.{marks_from, marked, at_low}
 use Rattle.palm_base.proofs.Every.{every_weaker}
-use Rattle.palm_route.proofs.Routings.{eqb_same, filter_on, filter_map}
+use Rattle.palm_route.proofs.Routings.{filter_on, filter_map}
 use Rattle.palm_route.proofs.GroupedParts.{parts_in, SameAtEach, same_groups, NoneFalls, sorted_groups}
 
 abbrev pub low_of : Mark → ℕ
@@ -79,7 +79,7 @@ tie_same a b = by (cases_lt a b) (cases_lt b a)
     by : (a < b) ⊎ (b ≤ a) → (b < a) ⊎ (a ≤ b) → (not (ltb a b) && not (ltb b a)) ≡ eqb b a
     by (inl less) other = rw (lt-ltb a b less) (sym (ne_eqb b a (λ e. omega (arith, e, less))))
     by (inr least) (inl less) = rw (le-ltb a b least, lt-ltb b a less) (sym (ne_eqb b a (λ e. omega (arith, e, less))))
-    by (inr least) (inr most) = rw (le-ltb a b least, le-ltb b a most) (sym (eqb_same b a (omega arith)))
+    by (inr least) (inr most) = rw (le-ltb a b least, le-ltb b a most) (sym (eq-eqb b a (omega arith)))
 
 at_mark : ℕ → Mark
 at_mark l = record { low = l; place = 0 }
