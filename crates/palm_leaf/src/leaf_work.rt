@@ -56,7 +56,7 @@ pub struct LeafWork<'a> {
 
 // Lists the rows of a leaf, for which there is room.
 fn list_rows(leaf: &Leaf, rows: &mut Vec<Row>)
-    requires none { rows.old.items ≡ [] }
+    requires empty { rows.old.items ≡ [] }
     requires room { length leaf.now ≤ vec_capacity rows.old }
     ensures rows { rows.new.items ≡ leaf.now }
     ensures leaf { IsLeaf leaf.now }
@@ -71,7 +71,7 @@ fn list_rows(leaf: &Leaf, rows: &mut Vec<Row>)
 pub fn cut_later(rows: &[Row], later: &mut Vec<NewLeaf>)
     requires table { IsTable rows.now }
     requires some { 0 < length rows.now }
-    requires none { later.old.items ≡ [] }
+    requires empty { later.old.items ≡ [] }
     requires room { piece_count MOST_LEAF_ROWS (length rows.now) ≤ vec_capacity later.old + 1 }
     ensures count { vec_len later.new + 1 ≡ piece_count MOST_LEAF_ROWS (length rows.now) }
     ensures pieces { (low : ℕ) → (low, take (piece_size MOST_LEAF_ROWS (length rows.now) 0) rows.now) ∷ map low_and_rows later.new.items ≡ leaves_of low rows.now }
@@ -91,7 +91,7 @@ pub fn cut_later(rows: &[Row], later: &mut Vec<NewLeaf>)
 impl LeafPlan<'_> {
     // Whether the leaf stands on: rows are left, and not too few.
     fn stays(&self) -> bool
-        ensures kept { result ≡ true → (0 < length self.now.rows.items) × (is_small self.now.least self.now.rows.items ≡ false) }
+        ensures stays { result ≡ true → (0 < length self.now.rows.items) × (is_small self.now.least self.now.rows.items ≡ false) }
         ensures removed { result ≡ false → (self.now.rows.items ≡ []) ⊎ (is_small self.now.least self.now.rows.items ≡ true) }
     {
         !self.rows.is_empty() && self.rows.len() >= self.least
@@ -133,7 +133,7 @@ fn keep(lease: &mut Lease, plan: &mut LeafPlan<'_>)
     requires leaf { (rows : List Row) × (lease.old.node ≡ Node.Leaf rows) }
     requires some { 0 < length plan.old.rows.items }
     requires table { IsTable plan.old.rows.items }
-    requires none { plan.old.later.items ≡ [] }
+    requires empty { plan.old.later.items ≡ [] }
     requires room { piece_count MOST_LEAF_ROWS (length plan.old.rows.items) ≤ vec_capacity plan.old.later + 1 }
     ensures id { lease.new.id ≡ lease.old.id }
     ensures leaf { (rows : List Row) × (lease.new.node ≡ Node.Leaf rows) }

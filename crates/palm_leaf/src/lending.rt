@@ -69,7 +69,7 @@ pub fn lend_leaves<'a, L: Ledger>(
     requires none_lent { NoneLent arena.old.places }
     requires leaves { (others : List Cell) × Owns (map_of arena.old.places) (group_cells (map_of arena.old.places) groups.now ++ others) }
     requires keys { AllByRecursion (λ group. AllByRecursion HasKey group.parts) groups.now }
-    requires none { works.old.items ≡ [] }
+    requires empty { works.old.items ≡ [] }
     requires room { length groups.now ≤ vec_capacity works.old }
     ensures works { OnOk result (map Some (present works.new.items) ≡ works.new.items) }
     ensures loaded { OnOk result (Matched (IsLoaded (map_of arena.old.places) least) groups.now (present works.new.items)) }
@@ -105,7 +105,7 @@ pub fn give_leaves_back<'a>(
     done: &mut Vec<LeafDone<'a>>,
 )
     requires lent { LentAre arena.old.places (lease_ids (present works.items)) }
-    requires none { done.old.items ≡ [] }
+    requires empty { done.old.items ≡ [] }
     requires room { vec_len works ≤ vec_capacity done.old }
     ensures done { done.new.items ≡ map done_of (reverse (present works.entry.items)) }
     ensures turned { Turns (map_of arena.old.places) (map_of arena.new.places) [] (map lease_cell (reverse (present works.entry.items))) }

@@ -69,7 +69,7 @@ fn is_within(row: &Row, from: u64, to: u64) -> bool
 
 // Lists the rows from one key to another, both included, `limit` of them at most, for which there is room.
 fn list_within(rows: &[Row], from: u64, to: u64, limit: usize, found: &mut Vec<Row>)
-    requires none { found.old.items ≡ [] }
+    requires empty { found.old.items ≡ [] }
     requires room { FindsRoom limit (length rows.now) (vec_capacity found.old) }
     ensures { found.new.items ≡ take limit (filter (lies_within from to) rows.now) }
 {
@@ -86,7 +86,7 @@ fn list_within(rows: &[Row], from: u64, to: u64, limit: usize, found: &mut Vec<R
 // The same of a table, whose rows before the first key it passes by, searching by halves.
 fn list_range(rows: &[Row], from: u64, to: u64, limit: usize, found: &mut Vec<Row>)
     requires table { IsTable rows.now }
-    requires none { found.old.items ≡ [] }
+    requires empty { found.old.items ≡ [] }
     requires room { FindsRoom limit (length rows.now) (vec_capacity found.old) }
     ensures { found.new.items ≡ take limit (filter (lies_within from to) rows.now) }
 {

@@ -57,10 +57,10 @@ fn work_all<'a, R: Threads + Sync, G: Gate + Sync, L: Ledger>(
     requires few { workers ≤ MOST_WORKERS }
     requires planned { AllByRecursion (IsPlanned (map_of arena.old.places)) planned.items }
     requires distinct { Distinct (map planned_id planned.items) }
-    requires none { tasks.old.items ≡ [] }
+    requires empty { tasks.old.items ≡ [] }
     requires room { vec_len planned ≤ vec_capacity tasks.old }
     ensures lent { LentTo arena.new.places tasks.new.items }
-    ensures none { OnOk result (tasks.new.items ≡ []) }
+    ensures empty { OnOk result (tasks.new.items ≡ []) }
     ensures begun { arena.new.begun ≡ arena.old.begun }
     ensures ok { OnOk result (HasWorked (map_of arena.old.places) level (map planned_key planned.entry.items) (map_of arena.new.places) made.old made.new) }
     ensures ticks { steps.new ≤ steps.old + vec_len planned.entry + sum_by (spare_of (map_of arena.old.places)) (map planned_key planned.entry.items) }

@@ -62,7 +62,7 @@ fn append_pieces(pieces: &[Piece], children: &mut Vec<Piece>)
 pub fn splice(inner: &Inner, changes: &[Change], children: &mut Vec<Piece>)
     requires paths { AllByRecursion (λ change. 0 < length change.path) changes.now }
     requires places { PlacesRise 0 (length inner.now.children) changes.now }
-    requires none { children.old.items ≡ [] }
+    requires empty { children.old.items ≡ [] }
     requires room { length (children_left inner.now changes.now) ≤ vec_capacity children.old }
     ensures { children.new.items ≡ children_left inner.now changes.now }
 {
@@ -81,7 +81,7 @@ pub fn splice(inner: &Inner, changes: &[Change], children: &mut Vec<Piece>)
 fn cut_later(children: &[Piece], later: &mut Vec<LaterNode>)
     requires some { 1 ≤ length children.now }
     requires rising { Rise (later_lows children.now) }
-    requires none { later.old.items ≡ [] }
+    requires empty { later.old.items ≡ [] }
     requires room { piece_count MOST_CHILDREN (length children.now) ≤ vec_capacity later.old + 1 }
     ensures { later.new.items ≡ map later_over (drop 1 (cut MOST_CHILDREN children.now)) }
 {

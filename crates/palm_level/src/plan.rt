@@ -150,7 +150,7 @@ fn path_to_parent(path: &Path) -> Path
 // The low of the node that a path leads to: its parent's separator before it, and 0 where it is the first child.
 fn low_of_path(arena: &Arena, path: &Path) -> u64
     requires path { 1 ≤ length path.now }
-    requires held { IsInnerAt (map_of arena.now.places) (last_step path.now) }
+    requires inner { IsInnerAt (map_of arena.now.places) (last_step path.now) }
     ensures { result ≡ low_at (map_of arena.now.places) path.now }
 {
     let (node, child) = last_step_of(path);

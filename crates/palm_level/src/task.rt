@@ -211,7 +211,7 @@ pub fn lend_all<'a, L: Ledger>(
     requires none_lent { NoneLent arena.old.places }
     requires planned { AllByRecursion (IsPlanned (map_of arena.old.places)) planned.items }
     requires distinct { Distinct (map planned_id planned.items) }
-    requires none { tasks.old.items ≡ [] }
+    requires empty { tasks.old.items ≡ [] }
     requires room { vec_len planned ≤ vec_capacity tasks.old }
     ensures lent { LentTo arena.new.places tasks.new.items }
     ensures begun { arena.new.begun ≡ arena.old.begun }
@@ -243,7 +243,7 @@ pub fn finish_all<L: Ledger>(
     ensures lent { LentTo arena.new.places tasks.new.items }
     ensures begun { arena.new.begun ≡ arena.old.begun }
     ensures ok { OnOk result (HasFinished level arena.old arena.new tasks.old.items changes.old changes.new) }
-    ensures none { OnOk result (tasks.new.items ≡ []) }
+    ensures empty { OnOk result (tasks.new.items ≡ []) }
     ensures ticks { steps.new ≤ steps.old + sum_by later_of tasks.old.items }
     ensures moved { length arena.new.moved + steps.old ≤ length arena.old.moved + steps.new }
 {

@@ -48,7 +48,7 @@ fn fill(
     requires { length rows.now ≤ MOST_LEAF_ROWS }
     ensures rows { rows_of keys.new rates.new.items ≡ rows.now }
     ensures prefixes { AllByRecursion IsKey (take (length rows.now) keys.new) }
-    ensures room { length keys.new ≡ MOST_LEAF_ROWS }
+    ensures width { length keys.new ≡ MOST_LEAF_ROWS }
     ensures len { array_vec_len rates.new ≡ length rows.now }
 {
     rates.clear();

@@ -120,7 +120,7 @@ fn room_beside(count: usize, size: usize) -> usize
 // Moves the routed parts of all shares to where there is room for them.
 fn append_all(works: Vec<Option<DescentWork<'_>>>, routed: &mut Vec<Routed>)
     requires there { All (Holds (λ _. Unit {0})) works.items }
-    requires none { routed.old.items ≡ [] }
+    requires empty { routed.old.items ≡ [] }
     requires room { length (flat_map routed_of works.items) ≤ vec_capacity routed.old }
     ensures { routed.new.items ≡ flat_map routed_of works.entry.items }
 {
@@ -136,7 +136,7 @@ fn append_all(works: Vec<Option<DescentWork<'_>>>, routed: &mut Vec<Routed>)
 // is room for them.
 fn join(mut works: Vec<Option<DescentWork<'_>>>, mut room: Vec<Routed>) -> Vec<Routed>
     requires there { All (Holds (λ _. Unit {0})) works.items }
-    requires none { room.items ≡ [] }
+    requires empty { room.items ≡ [] }
     requires room { (length works.items ≡ 1 → ⊥) → length (flat_map routed_of works.items) ≤ vec_capacity room }
     ensures { result.items ≡ flat_map routed_of works.entry.items }
 {

@@ -10,8 +10,8 @@ use Rattle.palm_leaf.proofs.leaf_work.cut_later.Goals as goal
 
 pub loop-i-init : goal.loop-i-init
 loop-i-init c = record {
-  far = none_made c.args.rows.now _ _ c.piece_size.result c.requires.some c.requires.table c.piece_size.ensures c.split_at.ensures.back c.requires.none;
-  len = omega (arith, c.args.later.now.ok, ap length c.requires.none);
+  far = none_made c.args.rows.now _ _ c.piece_size.result c.requires.some c.requires.table c.piece_size.ensures c.split_at.ensures.back c.requires.empty;
+  len = omega (arith, c.args.later.now.ok, ap length c.requires.empty);
   capacity = refl;
 }
 

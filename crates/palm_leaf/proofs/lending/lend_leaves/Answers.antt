@@ -8,9 +8,9 @@ use Rattle.palm_leaf.proofs.lending.lend_leaves.Goals as goal
 
 pub loop-group-init : goal.loop-group-init
 loop-group-init g c = record {
-  far = lent_none_yet c.args.arena.now.places c.args.least c.args.groups.now c.args.works.now.items c.requires.none_lent c.requires.none;
+  far = lent_none_yet c.args.arena.now.places c.args.least c.args.groups.now c.args.works.now.items c.requires.none_lent c.requires.empty;
   begun = refl;
-  len = omega (arith, ap length c.requires.none, c.args.works.now.ok.0);
+  len = omega (arith, ap length c.requires.empty, c.args.works.now.ok.0);
   capacity = refl;
   ticks = omega arith;
   moved = omega arith;

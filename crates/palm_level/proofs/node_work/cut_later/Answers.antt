@@ -11,8 +11,8 @@ split_at-requires c = subst (λ n. n ≤ length c.args.children.now) (sym c.piec
 
 pub loop-i-init : goal.loop-i-init
 loop-i-init c = record {
-  far = parts_first c.args.children.now c.split_at.result.1.now c.args.later.now.items c.piece_size.result c.requires.some c.requires.rising c.requires.none c.piece_size.ensures c.split_at.ensures.back;
-  len = let none = ap length c.requires.none in omega (arith, none);
+  far = parts_first c.args.children.now c.split_at.result.1.now c.args.later.now.items c.piece_size.result c.requires.some c.requires.rising c.requires.empty c.piece_size.ensures c.split_at.ensures.back;
+  len = let empty = ap length c.requires.empty in omega (arith, empty);
   capacity = refl;
 }
 

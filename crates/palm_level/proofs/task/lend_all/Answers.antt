@@ -4,11 +4,11 @@ use Rattle.palm_level.proofs.task.lend_all.Goals as goal
 
 pub loop-next-init : goal.loop-next-init
 loop-next-init g c =
-    let none = ap length c.requires.none in
+    let empty = ap length c.requires.empty in
     let room = c.requires.room in
     record {
-      far = lent_none_yet c.args.arena.now c.args.planned.items c.args.tasks.now.items c.requires.none c.requires.none_lent c.requires.planned c.requires.distinct;
-      room = omega (arith, none, room);
+      far = lent_none_yet c.args.arena.now c.args.planned.items c.args.tasks.now.items c.requires.empty c.requires.none_lent c.requires.planned c.requires.distinct;
+      room = omega (arith, empty, room);
       begun = refl;
       ticks = omega arith;
       moved = omega arith;

@@ -12,7 +12,7 @@ pub returns-else-edited : goal.returns-else-edited
 returns-else-edited c rows leaf =
     let looks : has_edit (parts_of_plan c.args.self.now.plan) ≡ false = ap (λ asked. has_edit (map part_of asked)) (sym c.deref.ensures.value) ∙ sym c.has_edit-edited.ensures ∙ c.if-edited.false in
     worked_itself rows c.node-2.result.now c.args.self.now c.resolve_parts.new.plan c.resolve_parts.ensures.resolved c.node-2.ensures leaf c.requires.plan.no_later
-    (c.args.self.now.plan.later.ok.0 ∙ ap length c.requires.plan.no_later) looks c.resolve_parts.ensures.few (c.stays.ensures.kept c.if-stays.true)
+    (c.args.self.now.plan.later.ok.0 ∙ ap length c.requires.plan.no_later) looks c.resolve_parts.ensures.few (c.stays.ensures.stays c.if-stays.true)
 
 pub returns-then-self : goal.returns-then-self
 returns-then-self c rows leaf =
