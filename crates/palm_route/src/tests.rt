@@ -44,29 +44,36 @@ fn assert_group(rt: &impl Abort, group: &Group, leaf: usize, entries: &[u64]) {
     }
 }
 
-#[test]
-fn groups_parts_by_leaf(rt: HostRuntime) -> Result<(), Fail> {
-    // Get 26, Get 10 and List 18 19, over leaves of 10 to 18 and from 19 on
-    let second = digits(&rt, "19").key();
-    let cases = [
+// The groups are of these leaves, in order, and the parts of each are of these entries.
+fn assert_groups(rt: &impl Abort, groups: Groups, wanted: &[(usize, &[u64])]) {
+    assert_eq!(rt; groups.len(), wanted.len());
+    for (group, want) in groups.into_list().iter().zip(wanted) {
+        let (leaf, entries) = *want;
+        assert_group(rt, group, leaf, entries);
+    }
+}
+
+// The parts of Get 26, Get 10 and List 18 19, routed to leaves of 10 to 18 and from 19 on.
+fn routed_parts(rt: &impl Abort, alloc: Global) -> Result<RoutedList, NoMemory> {
+    let second = digits(rt, "19").key();
+    let parts = [
         (0, 0, "26", 2, second),
         (1, 0, "10", 1, 0),
         (2, 0, "18", 1, 0),
         (2, 1, "19", 2, second),
     ];
-    let mut routed = RoutedList::new(rt.alloc());
-    for (entry, number, prefix, leaf, low) in cases {
-        routed.push(at_leaf(entry, number, digits(&rt, prefix), leaf, low))?;
+    let mut routed = RoutedList::new(alloc);
+    for (entry, number, prefix, leaf, low) in parts {
+        routed.push(at_leaf(entry, number, digits(rt, prefix), leaf, low))?;
     }
+    Ok(routed)
+}
+
+#[test]
+fn groups_parts_by_leaf(rt: HostRuntime) -> Result<(), Fail> {
+    let routed = routed_parts(&rt, rt.alloc())?;
     let groups = group(&rt, rt.alloc(), routed, 2)?;
-    assert_eq!(rt; groups.len(), 2);
-    for (i, group) in groups.into_list().iter().enumerate() {
-        if i == 0 {
-            assert_group(&rt, group, 1, &[1, 2]);
-        } else {
-            assert_group(&rt, group, 2, &[0, 2]);
-        }
-    }
+    assert_groups(&rt, groups, &[(1, &[1, 2]), (2, &[0, 2])]);
     Ok(())
 }
 
@@ -112,6 +119,19 @@ fn calls(rt: &impl Abort) -> [Call; 5] {
     ]
 }
 
+// A batch of one call of each kind.
+fn batch_of_calls(rt: &impl Abort, alloc: Global) -> Result<Vec<Entry>, NoMemory> {
+    let mut batch = Vec::new(alloc);
+    for call in calls(rt) {
+        batch.push(Entry {
+            caller: 0,
+            place: 0,
+            call,
+        })?;
+    }
+    Ok(batch)
+}
+
 // Counts how often it is passed.
 #[derive(Drop)]
 struct Passed {
@@ -137,14 +157,7 @@ fn assert_routed(
     requires some { 1 ≤ workers }
     requires few { workers ≤ MOST_WORKERS }
 {
-    let mut batch = Vec::new(alloc);
-    for call in calls(rt) {
-        batch.push(Entry {
-            caller: 0,
-            place: 0,
-            call,
-        })?;
-    }
+    let batch = batch_of_calls(rt, alloc)?;
     let parts = expand(alloc, arena, shape, &batch)?;
     assert_eq!(rt; parts.len(), 7);
     let gate = Passed {
@@ -157,10 +170,7 @@ fn assert_routed(
         "{workers} workers"
     );
     let groups = group(rt, alloc, routed, workers)?;
-    assert_eq!(rt; groups.len(), 1);
-    for group in groups.into_list() {
-        assert_group(rt, &group, shape.root.place, &[0, 1, 2, 3, 3, 3, 4]);
-    }
+    assert_groups(rt, groups, &[(shape.root.place, &[0, 1, 2, 3, 3, 3, 4])]);
     Ok(())
 }
 
