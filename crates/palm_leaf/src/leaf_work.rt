@@ -3,7 +3,6 @@ ghost use Rattle.std.specs.Prelude.{◌≡◌, ℕ, ◌≤◌, ◌<◌, ◌+◌,
 ghost use Rattle.palm_base.specs.Table.{IsTable};
 ghost use Rattle.palm_base.specs.Cut.{piece_count, piece_size};
 ghost use Rattle.palm_base.specs.Pass.{is_small, leaves_of};
-ghost use Rattle.palm_node.specs.LeafRows.{IsLeaf};
 ghost use Rattle.palm_base.specs.declared.row.Row.{Row};
 ghost use Rattle.palm_leaf.specs.Answers.{answers_in, rows_in_node};
 ghost use Rattle.palm_leaf.specs.Asked.{all_look};
@@ -54,19 +53,6 @@ pub struct LeafWork<'a> {
     pub plan: LeafPlan<'a>,
 }
 
-// Lists the rows of a leaf, for which there is room.
-fn list_rows(leaf: &Leaf, rows: &mut Vec<Row>)
-    requires empty { rows.old.items ≡ [] }
-    requires room { length leaf.now ≤ vec_capacity rows.old }
-    ensures rows { rows.new.items ≡ leaf.now }
-    ensures leaf { IsLeaf leaf.now }
-    ensures capacity { vec_capacity rows.new ≡ vec_capacity rows.old }
-{
-    for i in 0..leaf.len() {
-        rows.push_reserved(leaf.row(i));
-    }
-}
-
 /// Cuts the rows past the first piece into leaves, for which there is room.
 pub fn cut_later(rows: &[Row], later: &mut Vec<NewLeaf>)
     requires table { IsTable rows.now }
@@ -109,7 +95,7 @@ pub fn resolve_parts(node: &Node, plan: &mut LeafPlan<'_>)
     let Node::Leaf(leaf) = node else {
         unreachable!()
     };
-    list_rows(leaf, &mut plan.rows);
+    leaf.append_rows_reserved(&mut plan.rows);
     resolve(&mut plan.rows, &mut plan.asked);
 }
 

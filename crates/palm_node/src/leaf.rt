@@ -6,7 +6,7 @@
 //
 // It is 264 bytes wide. The keys stand side by side in words, so that a look-up compares eight of them at once where they
 // are, and as many of them count as there are rates. A row's prefix is made of its key again, at no cost.
-ghost use Rattle.std.specs.Prelude.{◌≡◌, ◌≤◌, ◌<◌, ◌==◌, length, take, slice_get, Some};
+ghost use Rattle.std.specs.Prelude.{◌≡◌, ◌≤◌, ◌<◌, ◌==◌, ◌+◌, ◌++◌, length, take, slice_get, Some, OnOk, OnErr, vec_len, vec_capacity};
 ghost use Rattle.std.specs.List.{AllByRecursion};
 ghost use Rattle.arrayvec.specs.ArrayVec.{array_vec_len};
 ghost use Rattle.palm_base.specs.Key.{IsKey};
@@ -14,7 +14,7 @@ ghost use Rattle.palm_base.specs.Table.{IsTable, rate_at};
 ghost use Rattle.palm_node.specs.LeafRows.{IsLeaf, rows_of};
 
 use arrayvec::ArrayVec;
-use palm_base::{Amount, Digits, MOST_LEAF_ROWS, Row};
+use palm_base::{Amount, Digits, MOST_LEAF_ROWS, NoMemory, Row};
 use palm_lanes::find;
 use std::marker::Model;
 
@@ -116,6 +116,28 @@ impl Leaf {
     {
         let place = find(&self.keys, self.rates.len(), key)?;
         Some(self.rates[place])
+    }
+
+    /// Appends the rows to a list that has room for them.
+    pub fn append_rows_reserved(&self, rows: &mut Vec<Row>)
+        requires { vec_len rows.old + length self.now ≤ vec_capacity rows.old }
+        ensures rows { rows.new.items ≡ rows.old.items ++ self.now }
+        ensures leaf { IsLeaf self.now }
+        ensures capacity { vec_capacity rows.new ≡ vec_capacity rows.old }
+    {
+        for i in 0..self.len() {
+            rows.push_reserved(self.row(i));
+        }
+    }
+
+    /// Appends the rows to a list. Where room for them was refused it has the rows that it had.
+    pub fn append_rows(&self, rows: &mut Vec<Row>) -> Result<(), NoMemory>
+        ensures ok { OnOk result (rows.new.items ≡ rows.old.items ++ self.now) }
+        ensures err { OnErr result (rows.new.items ≡ rows.old.items) }
+    {
+        rows.reserve(self.len())?;
+        self.append_rows_reserved(rows);
+        Ok(())
     }
 
     /// Puts these rows in place of the leaf's. It takes no memory.

@@ -120,6 +120,20 @@ fn puts_other_rows_in_place(rt: HostRuntime) -> Result<(), Fail> {
     Ok(())
 }
 
+#[test]
+fn appends_rows_to_others(rt: HostRuntime) -> Result<(), Fail> {
+    let rows = full_rows(&rt, rt.alloc())?;
+    assert!(rt; 9 <= rows.len());
+    let leaf = leaf_of(&rt, &rows[..9]);
+    let mut list = Vec::new(rt.alloc());
+    leaf.append_rows(&mut list)?;
+    leaf.append_rows(&mut list)?;
+    assert!(rt; list.len() == 18);
+    assert!(rt; list[..9] == rows[..9]);
+    assert!(rt; list[9..] == rows[..9]);
+    Ok(())
+}
+
 // The node of the first `count` children, which are at the places 200, 201 and so on, and the separators between them.
 fn inner_of(rt: &impl Abort, alloc: Global, count: usize) -> Result<Inner, Fail> {
     let children = ids(alloc, 200)?;

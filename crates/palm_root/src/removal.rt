@@ -1,5 +1,5 @@
 // The orphans of a pass: the rows of removed leaves, and all rows under removed inner nodes, which are taken out of the arena.
-ghost use Rattle.std.specs.Prelude.{◌≡◌, ◌<◌, ◌++◌, List, OnOk, IfOk, IsSome};
+ghost use Rattle.std.specs.Prelude.{◌≡◌, List, OnOk, IfOk, IsSome};
 ghost use Rattle.palm_base.specs.Pass.{orphans_of};
 ghost use Rattle.palm_base.specs.declared.row.Row.{Row};
 ghost use Rattle.palm_arena.specs.ArenaState.{NoneLent};
@@ -17,18 +17,8 @@ ghost use Rattle.palm_base.specs.Table.{row_key};
 use arrayvec::ArrayVec;
 use palm_arena::Arena;
 use palm_base::{MOST_CHILDREN, NoMemory, Row, RowList};
-use palm_node::{Changes, Inner, Leaf, Node, NodeId, Removed};
+use palm_node::{Changes, Inner, Node, NodeId, Removed};
 use std::alloc::Global;
-
-// Appends the rows of a leaf.
-fn gather(leaf: &Leaf, rows: &mut Vec<Row>) -> Result<(), NoMemory>
-    ensures { OnOk result (rows.new.items ≡ rows.old.items ++ leaf.now) }
-{
-    for i in 0..leaf.len() {
-        rows.push(leaf.row(i))?;
-    }
-    Ok(())
-}
 
 // The children of an inner node.
 fn children_of(inner: &Inner) -> ArrayVec<NodeId, MOST_CHILDREN>
@@ -53,7 +43,7 @@ fn sweep(arena: &mut Arena, id: NodeId, below: u32, rows: &mut Vec<Row>) -> Resu
 {
     let children = match arena.read(id) {
         Node::Leaf(leaf) => {
-            gather(leaf, rows)?;
+            leaf.append_rows(rows)?;
             arena.drop_node(id)?;
             return Ok(());
         }

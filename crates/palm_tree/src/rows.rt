@@ -7,17 +7,7 @@ ghost use Rattle.palm_tree.specs.TreeValue.{tree_in};
 use crate::tree::Tree;
 use palm_arena::Arena;
 use palm_base::{NoMemory, Row, RowList};
-use palm_node::{Leaf, Node, NodeId};
-
-// Appends a leaf's rows.
-fn append_leaf(leaf: &Leaf, rows: &mut Vec<Row>) -> Result<(), NoMemory>
-    ensures ok { OnOk result (rows.new.items ≡ rows.old.items ++ leaf.now) }
-{
-    for i in 0..leaf.len() {
-        rows.push(leaf.row(i))?;
-    }
-    Ok(())
-}
+use palm_node::{Node, NodeId};
 
 // Appends the rows that stand below a node, child after child.
 fn append_below(arena: &Arena, id: NodeId, below: u32, rows: &mut Vec<Row>) -> Result<(), NoMemory>
@@ -25,7 +15,7 @@ fn append_below(arena: &Arena, id: NodeId, below: u32, rows: &mut Vec<Row>) -> R
     ensures ok { OnOk result (rows.new.items ≡ rows.old.items ++ rows_below arena.now.places below id) }
 {
     let inner = match arena.read(id) {
-        Node::Leaf(leaf) => return append_leaf(leaf, rows),
+        Node::Leaf(leaf) => return leaf.append_rows(rows),
         Node::Inner(inner) => inner,
     };
     for i in 0..inner.len() {

@@ -13,8 +13,8 @@ read-requires t c = held (map_of c.args.arena.now.places) c.args.below c.args.id
 
 pub returns-in-Leaf-clause-swept : goal.returns-in-Leaf-clause-swept
 returns-in-Leaf-clause-swept t c kept others stands =
-    leaf_dropped (map_of c.args.arena.now.places) (map_of c.drop_node.new.self.places) c.args.below c.args.id c.args.rows.now.items c.gather.new.rows.items kept others c.in-Leaf.leaf
-    stands (c.read.ensures.node ∙ ap Some c.in-Leaf.is) c.in_ok-gather-in-Leaf.ensures (dropped_turns c.args.arena.now c.drop_node.new.self c.args.id (Leaf c.in-Leaf.leaf) c.in_ok-drop_node-in-Leaf.ensures.ok)
+    leaf_dropped (map_of c.args.arena.now.places) (map_of c.drop_node.new.self.places) c.args.below c.args.id c.args.rows.now.items c.append_rows.new.rows.items kept others c.in-Leaf.leaf
+    stands (c.read.ensures.node ∙ ap Some c.in-Leaf.is) c.in_ok-append_rows-in-Leaf.ensures.ok (dropped_turns c.args.arena.now c.drop_node.new.self c.args.id (Leaf c.in-Leaf.leaf) c.in_ok-drop_node-in-Leaf.ensures.ok)
 
 pub returns-in-Leaf-clause-none_lent : goal.returns-in-Leaf-clause-none_lent
 returns-in-Leaf-clause-none_lent t c = gone_home c.args.arena.now c.drop_node.new.self c.args.id c.in_ok-drop_node-in-Leaf.ensures.ok c.requires.none_lent

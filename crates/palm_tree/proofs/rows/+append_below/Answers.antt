@@ -11,8 +11,7 @@ pub read-requires : goal.read-requires
 read-requires t c = node_held c.args.arena.now.places c.args.below c.args.id c.requires.node
 
 pub returns-in-Leaf : goal.returns-in-Leaf
-returns-in-Leaf t c =
-    rw (leaf_below _ _ _ _ _ c.requires.node c.read.ensures.node c.in-Leaf.is) c.append_leaf.ensures
+returns-in-Leaf t c = record { ok = rw (leaf_below _ _ _ _ _ c.requires.node c.read.ensures.node c.in-Leaf.is) c.append_rows.ensures.ok }
 
 pub overflow_sub-below : goal.overflow_sub-below
 overflow_sub-below t c =
