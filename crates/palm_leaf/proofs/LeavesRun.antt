@@ -1,21 +1,17 @@
 -- Lent leaves are run, given back and settled, one beside another.
 use Rattle.std.proofs.Common.{Bor, ◌≡◌, ℕ, zero, suc, ◌+◌, ◌-◌, ◌≤◌, true, false, List, [], ◌∷◌, ◌++◌, length, map, None, Some, refl, sym, ap, ◌∙◌, subst, arith, Bool}
-use Rattle.std.specs.Prelude.{Option, reverse, sum_by}
+use Rattle.std.specs.Prelude.{Option, sum_by}
 use Rattle.std.specs.List.{flat_map, AllByRecursion, AllZip}
-use Rattle.std.proofs.lemmas.List.{reverse-append, reverse-reverse}
 use Rattle.std.proofs.lemmas.List.Sums.{sum_by-append}
-use Rattle.std.proofs.lemmas.List.Sorted.{IsPermutation-reverse, sum_by-IsPermutation}
-use mathlib.Core.List.{map-append}
 use Rattle.palm_base.specs.declared.row.Row.{Row}
 use Rattle.palm_node.specs.declared.id.NodeId.{NodeId}
 use Rattle.palm_node.specs.declared.node.Node.{Node}
 use Rattle.palm_node.specs.declared.node.Node.TheVariants.{Leaf}
 use Rattle.palm_node.specs.declared.change.Change.{Change}
-use Rattle.palm_arena.specs.Cells.{Cell, Owns, SameCells, Turns}
+use Rattle.palm_arena.specs.Cells.{Cell, Owns, Turns}
 use Rattle.palm_arena.proofs.OwnedTrees.{first_holds}
-use Rattle.palm_arena.proofs.CellLists.{owned_same, same_append, same_swap, same_trans, same_eq}
 use Rattle.palm_arena.proofs.Natural.{length-map'}
-use Rattle.palm_arena.proofs.Turning.{turns_then, turns_same}
+use Rattle.palm_arena.proofs.Turning.{turns_then}
 use Rattle.palm_route.specs.declared.part.Group.{Group}
 use Rattle.palm_share.specs.Jobs.{Holds, Relates}
 use Rattle.palm_leaf.specs.Answers.{answers_in, rows_at, rows_in_node}
@@ -77,21 +73,6 @@ all_run nodes least (group ∷ groups) (work ∷ before) (Some done ∷ after) a
 
 -- ---- giving back
 
-reverse_first : {X : Type 0} (x : X) (xs : List X) → reverse (x ∷ xs) ≡ reverse xs ++ x ∷ []
-reverse_first x xs = reverse-append (x ∷ []) xs
-
-map_back : {X Y : Type 0} (f : X → Y) (xs : List X) → map f (reverse xs) ≡ reverse (map f xs)
-map_back f [] = refl
-map_back {Y = Y} f (x ∷ xs) =
-    ap (map f) (reverse_first x xs) ∙ map-append f (reverse xs) (x ∷ []) ∙ ap (λ (ys : List Y). ys ++ f x ∷ []) (map_back f xs) ∙ sym (reverse_first (f x) (map f xs))
-
-same_back : (cells : List Cell) → SameCells (reverse cells) cells
-same_back [] = λ i. refl
-same_back (cell ∷ cells) =
-    same_trans (reverse (cell ∷ cells)) (reverse cells ++ cell ∷ []) (cell ∷ cells) (same_eq (reverse (cell ∷ cells)) (reverse cells ++ cell ∷ []) (reverse_first cell cells))
-    (same_trans (reverse cells ++ cell ∷ []) (cell ∷ reverse cells) (cell ∷ cells) (same_swap (reverse cells) (cell ∷ []))
-    (same_append (cell ∷ []) (cell ∷ []) (reverse cells) cells (λ i. refl) (same_back cells)))
-
 -- A leaf that was given back stands as its lease had it.
 done_are_leases : (start nodes : NodeId → Option Node) (least : ℕ) (groups : List Group) (works : List LeafWork) → Matched (IsEnded start least) groups works → AllByRecursion (λ cell. nodes cell.0 ≡ Some cell.1) (map lease_cell works)
     → done_cells nodes (map done_of works) ≡ map lease_cell works
@@ -135,18 +116,13 @@ pub some_parts : (groups : List Group) → AllByRecursion (λ group. 1 ≤ lengt
 some_parts [] all = omega arith
 some_parts (group ∷ groups) all = omega (arith, all.0, some_parts groups all.1, sum_first (λ (g : Group). length g.parts) group groups)
 
-few_later : (start : NodeId → Option Node) (least : ℕ) (groups : List Group) (works : List LeafWork) → Matched (IsEnded start least) groups works → sum_by (λ (done : LeafDone). length done.plan.later.items) (map done_of works) ≤ parts_in groups
-few_later start least [] [] all = omega arith
-few_later start least [] (work ∷ works) all = absurd all
-few_later start least (group ∷ groups) [] all = absurd all
-few_later start least (group ∷ groups) (work ∷ works) all =
-    omega (arith, all.0.few, few_later start least groups works all.1, sum_first (λ (g : Group). length g.parts) group groups, sum_first (λ (done : LeafDone). length done.plan.later.items) (done_of work) (map done_of works))
-
 -- The later leaves are no more than the parts.
-pub later_few : (start : NodeId → Option Node) (least : ℕ) (groups : List Group) (works : List LeafWork) → Matched (IsEnded start least) groups works → sum_by (λ (done : LeafDone). length done.plan.later.items) (map done_of (reverse works)) ≤ parts_in groups
-later_few start least groups works all =
-    let f : LeafDone → ℕ = λ (done : LeafDone). length done.plan.later.items in
-    rw (map_back done_of works, sum_by-IsPermutation f (map done_of works) (reverse (map done_of works)) (IsPermutation-reverse (map done_of works))) (few_later start least groups works all)
+pub later_few : (start : NodeId → Option Node) (least : ℕ) (groups : List Group) (works : List LeafWork) → Matched (IsEnded start least) groups works → sum_by (λ (done : LeafDone). length done.plan.later.items) (map done_of works) ≤ parts_in groups
+later_few start least [] [] all = omega arith
+later_few start least [] (work ∷ works) all = absurd all
+later_few start least (group ∷ groups) [] all = absurd all
+later_few start least (group ∷ groups) (work ∷ works) all =
+    omega (arith, all.0.few, later_few start least groups works all.1, sum_first (λ (g : Group). length g.parts) group groups, sum_first (λ (done : LeafDone). length done.plan.later.items) (done_of work) (map done_of works))
 
 changes_count : (ids : List (List NodeId)) (ends : List LeafEnd) → Fit ids ends → length (changes_at ids ends) ≡ length ends
 changes_count [] [] fit = refl
@@ -190,40 +166,26 @@ pieces_few start least (group ∷ groups) (work ∷ works) (i ∷ ids) all fit =
 
 -- ---- all together
 
--- The map after the leaves are given back.
-pub given_owned : (start lent back : NodeId → Option Node) (least : ℕ) (groups : List Group) (works : List LeafWork) (others : List Cell) → Owns start (group_cells start groups ++ others)
-    → Turns start lent (group_cells start groups) [] → Turns lent back [] (map lease_cell (reverse works)) → Owns back (map lease_cell works ++ others)
-given_owned start lent back least groups works others owned first then =
-    let now = then others (first others owned) in
-    owned_same back (map lease_cell (reverse works) ++ others) (map lease_cell works ++ others) now
-    (same_append (map lease_cell (reverse works)) (map lease_cell works) others others
-    (same_trans (map lease_cell (reverse works)) (reverse (map lease_cell works)) (map lease_cell works) (same_eq (map lease_cell (reverse works)) (reverse (map lease_cell works)) (map_back lease_cell works)) (same_back (map lease_cell works))) (λ i. refl))
-
 -- What is left to settle stands in the map.
-pub done_owned : (start back : NodeId → Option Node) (least : ℕ) (groups : List Group) (works : List LeafWork) (done : List LeafDone) (others : List Cell) → Matched (IsEnded start least) groups works → Owns back (map lease_cell works ++ others)
-    → done ≡ map done_of (reverse works) → (reverse done ≡ map done_of works) × Owns back (done_cells back (reverse done) ++ others)
-done_owned start back least groups works done others all owned is =
-    let order : reverse done ≡ map done_of works = ap reverse (is ∙ map_back done_of works) ∙ reverse-reverse (map done_of works) in
-    let held = first_holds back (map lease_cell works) others owned in
-    (order, subst (λ (cells : List Cell). Owns back (cells ++ others)) (sym (ap (done_cells back) order ∙ done_are_leases start back least groups works all held)) owned)
+pub done_owned : (start lent back : NodeId → Option Node) (least : ℕ) (groups : List Group) (works : List LeafWork) (done : List LeafDone) (others : List Cell) → Matched (IsEnded start least) groups works
+    → Owns start (group_cells start groups ++ others) → Turns start lent (group_cells start groups) [] → Turns lent back [] (map lease_cell works) → done ≡ map done_of works → Owns back (done_cells back done ++ others)
+done_owned start lent back least groups works done others all owned first then is =
+    let now = then others (first others owned) in
+    let held = first_holds back (map lease_cell works) others now in
+    subst (λ (cells : List Cell). Owns back (cells ++ others)) (sym (ap (done_cells back) is ∙ done_are_leases start back least groups works all held)) now
 
 pub leaves_done : (start lent back new : NodeId → Option Node) (least : ℕ) (groups : List Group) (works : List LeafWork) (done : List LeafDone) (others : List Cell) (gathered : Gathered)
     → AllByRecursion (λ group. 1 ≤ length group.parts) groups → Matched (IsEnded start least) groups works
-    → Owns start (group_cells start groups ++ others) → Turns start lent (group_cells start groups) [] → Turns lent back [] (map lease_cell (reverse works)) → done ≡ map done_of (reverse works)
-    → LeavesEnd back new (done_cells back (reverse done)) (map (end_of_done back) (reverse done)) gathered.nodes gathered.loose.items → gathered.answers ≡ answers_of_done (reverse done) → LeavesDone start new least groups gathered
+    → Owns start (group_cells start groups ++ others) → Turns start lent (group_cells start groups) [] → Turns lent back [] (map lease_cell works) → done ≡ map done_of works
+    → LeavesEnd back new (done_cells back done) (map (end_of_done back) done) gathered.nodes gathered.loose.items → gathered.answers ≡ answers_of_done done → LeavesDone start new least groups gathered
 leaves_done start lent back new least groups works done others gathered some all owned first then is ends answers =
-    let now = given_owned start lent back least groups works others owned first then in
-    let order = (done_owned start back least groups works done others all now is).0 in
-    let held = first_holds back (map lease_cell works) others now in
+    let held = first_holds back (map lease_cell works) others (then others (first others owned)) in
     let cells = map lease_cell works in
-    let as_ends : map (end_of_done back) (reverse done) ≡ map (end_of start least) groups = ap (map (end_of_done back)) order ∙ ends_are start back least groups works all held in
-    let as_cells : done_cells back (reverse done) ≡ cells = ap (done_cells back) order ∙ done_are_leases start back least groups works all held in
+    let as_ends : map (end_of_done back) done ≡ map (end_of start least) groups = ap (map (end_of_done back)) is ∙ ends_are start back least groups works all held in
+    let as_cells : done_cells back done ≡ cells = ap (done_cells back) is ∙ done_are_leases start back least groups works all held in
     let far : LeavesEnd back new cells (map (end_of start least) groups) gathered.nodes gathered.loose.items =
     subst (λ (es : List LeafEnd). LeavesEnd back new cells es gathered.nodes gathered.loose.items) as_ends
-    (subst (λ (cs : List Cell). LeavesEnd back new cs (map (end_of_done back) (reverse done)) gathered.nodes gathered.loose.items) as_cells ends) in
-    let given : Turns lent back [] cells =
-    turns_same lent back [] [] (map lease_cell (reverse works)) cells (λ i. refl)
-    (same_trans (map lease_cell (reverse works)) (reverse cells) cells (same_eq (map lease_cell (reverse works)) (reverse cells) (map_back lease_cell works)) (same_back cells)) then in
+    (subst (λ (cs : List Cell). LeavesEnd back new cs (map (end_of_done back) done) gathered.nodes gathered.loose.items) as_cells ends) in
     record {
       ends = record {
         ids = far.ids;
@@ -231,9 +193,9 @@ leaves_done start lent back new least groups works done others gathered some all
         changes-are = far.changes-are;
         loose-are = far.loose-are;
         turned = turns_then start lent new (group_cells start groups) [] (cells_at far.ids (map (end_of start least) groups)) first
-            (turns_then lent back new [] cells (cells_at far.ids (map (end_of start least) groups)) given far.turned);
+            (turns_then lent back new [] cells (cells_at far.ids (map (end_of start least) groups)) then far.turned);
       };
-      answers = answers ∙ ap answers_of_done order ∙ answers_are start least groups works all;
+      answers = answers ∙ ap answers_of_done is ∙ answers_are start least groups works all;
       nodes = rw far.changes-are (omega (arith, changes_count far.ids (map (end_of start least) groups) far.fit, length-map' (end_of start least) groups, some_parts groups some));
       pieces = rw far.changes-are (pieces_few start least groups works far.ids all far.fit);
     }

@@ -1,7 +1,6 @@
 -- One leaf more is lent, and one more is given back.
 use Rattle.std.proofs.Common.{◌≡◌, ℕ, List, [], ◌∷◌, ◌++◌, length, map, None, Some, refl, sym, ap, ◌∙◌, append_assoc, subst}
-use Rattle.std.specs.Prelude.{Option, reverse}
-use Rattle.std.proofs.lemmas.List.{reverse-append}
+use Rattle.std.specs.Prelude.{Option}
 use mathlib.Core.List.{map-append}
 use Rattle.palm_node.specs.declared.node.Node.TheVariants.{Leaf}
 use Rattle.palm_arena.specs.declared.place.Place.{Place}
@@ -20,17 +19,12 @@ use Rattle.palm_leaf.specs.Worked.{IsPlan}
 use Rattle.palm_base.specs.declared.row.Row.{Row}
 use Rattle.palm_leaf.specs.declared.leaf_work.LeafWork.{LeafWork}
 use Rattle.palm_leaf.specs.declared.lending.LeafDone.{LeafDone}
-use Rattle.palm_leaf.proofs.LentIds.{none_are_lent, one_more_lent, last_is_lent, one_given_back}
+use Rattle.palm_leaf.proofs.LentIds.{none_are_lent, one_more_lent, one_given_back}
 
 pub present_end : {X : Type 0} (items : List (Option X)) (x : X) → present (items ++ Some x ∷ []) ≡ present items ++ x ∷ []
 present_end [] x = refl
 present_end (None ∷ items) x = present_end items x
 present_end (Some y ∷ items) x = ap (λ xs. y ∷ xs) (present_end items x)
-
-pub present_none : {X : Type 0} (items : List (Option X)) → present (items ++ None ∷ []) ≡ present items
-present_none [] = refl
-present_none (None ∷ items) = present_none items
-present_none (Some y ∷ items) = ap (λ xs. y ∷ xs) (present_none items)
 
 matched_end : (Fits : Group → LeafWork → Type 0) (groups : List Group) (works : List LeafWork) (group : Group) (work : LeafWork) → Matched Fits groups works → Fits group work → Matched Fits (groups ++ group ∷ []) (works ++ work ∷ [])
 matched_end Fits [] [] group work all one = (one, tt)
@@ -109,51 +103,37 @@ one_lent start places next least all left group works more work others far owned
 -- How far the giving back has come: `left` are the items that are still to be given back.
 pub record GiveSoFar (start places : List Place) (all left : List (Option LeafWork)) (done : List LeafDone) : Type 0 where
   pub gone : List LeafWork
-  pub whole : present left ++ reverse gone ≡ present all
+  pub whole : gone ++ present left ≡ present all
   pub done-are : done ≡ map done_of gone
   pub turned : Turns (map_of start) (map_of places) [] (map lease_cell gone)
   pub lent : LentAre places (lease_ids (present left))
 
 -- An item that isn't there is passed over.
-pub one_passed : (start places : List Place) (all left before : List (Option LeafWork)) (done : List LeafDone) → before ≡ left ++ None ∷ [] → GiveSoFar start places all before done → GiveSoFar start places all left done
-one_passed start places all left before done popped far =
-    let same : present before ≡ present left = ap present popped ∙ present_none left in
-    record {
-      gone = far.gone;
-      whole = ap (λ ws. ws ++ reverse far.gone) (sym same) ∙ far.whole;
-      done-are = far.done-are;
-      turned = far.turned;
-      lent = subst (λ ws. LentAre places (lease_ids ws)) same far.lent;
-    }
+pub one_passed : (start places : List Place) (all left before : List (Option LeafWork)) (done : List LeafDone) → before ≡ None ∷ left → GiveSoFar start places all before done → GiveSoFar start places all left done
+one_passed start places all left before done next far =
+    let here = subst (λ items. GiveSoFar start places all items done) next far in
+    record { gone = here.gone; whole = here.whole; done-are = here.done-are; turned = here.turned; lent = here.lent }
 
-pub next_is_lent : (start places : List Place) (all left before : List (Option LeafWork)) (work : LeafWork) (done : List LeafDone) → before ≡ left ++ Some work ∷ [] → GiveSoFar start places all before done
-    → LentAre places (lease_ids (present left) ++ work.lease.id ∷ [])
-next_is_lent start places all left before work done popped far =
-    subst (LentAre places) (ap (λ ws. lease_ids (present ws)) popped ∙ ap lease_ids (present_end left work) ∙ map-append (λ (w : LeafWork). w.lease.id) (present left) (work ∷ [])) far.lent
+pub next_is_lent : (start places : List Place) (all left before : List (Option LeafWork)) (work : LeafWork) (done : List LeafDone) → before ≡ Some work ∷ left → GiveSoFar start places all before done → IsLent places work.lease.id
+next_is_lent start places all left before work done next far = (subst (λ items. LentAre places (lease_ids (present items))) next far.lent).each.0
 
 -- One more is given back.
-pub one_given : (start places next : List Place) (all left before : List (Option LeafWork)) (work : LeafWork) (done more : List LeafDone) → before ≡ left ++ Some work ∷ [] → GiveSoFar start places all before done
-    → next ≡ with_place places work.lease.id (Holds work.lease.node) → more ≡ done ++ done_of work ∷ [] → GiveSoFar start next all left more
-one_given start places next all left before work done more popped far put pushed =
-    let lent = next_is_lent start places all left before work done popped far in
-    let ids = lease_ids (present left) in
+pub one_given : (start places now : List Place) (all left before : List (Option LeafWork)) (work : LeafWork) (done more : List LeafDone) → before ≡ Some work ∷ left → GiveSoFar start places all before done
+    → now ≡ with_place places work.lease.id (Holds work.lease.node) → more ≡ done ++ done_of work ∷ [] → GiveSoFar start now all left more
+one_given start places now all left before work done more next far put pushed =
+    let here = subst (λ items. GiveSoFar start places all items done) next far in
     let id = work.lease.id in
     let node = work.lease.node in
     let after = with_place places id (Holds node) in
-    let cells = map lease_cell far.gone in
-    let here : IsLent places id = last_is_lent places id ids lent.each in
+    let cells = map lease_cell here.gone in
     rw (put, pushed) record {
-      gone = far.gone ++ work ∷ [];
-      whole =
-          ap (λ ws. present left ++ ws) (reverse-append far.gone (work ∷ []))
-          ∙ sym (append_assoc (present left) (work ∷ []) (reverse far.gone))
-          ∙ ap (λ ws. ws ++ reverse far.gone) (sym (present_end left work) ∙ ap present (sym popped))
-          ∙ far.whole;
-      done-are = ap (λ ds. ds ++ done_of work ∷ []) far.done-are ∙ sym (map-append done_of far.gone (work ∷ []));
+      gone = here.gone ++ work ∷ [];
+      whole = append_assoc here.gone (work ∷ []) (present left) ∙ here.whole;
+      done-are = ap (λ ds. ds ++ done_of work ∷ []) here.done-are ∙ sym (map-append done_of here.gone (work ∷ []));
       turned =
-          subst (λ cs. Turns (map_of start) (map_of after) [] cs) (sym (map-append lease_cell far.gone (work ∷ [])))
-          (turns_then (map_of start) (map_of places) (map_of after) [] cells (cells ++ lease_cell work ∷ []) far.turned
+          subst (λ cs. Turns (map_of start) (map_of after) [] cs) (sym (map-append lease_cell here.gone (work ∷ [])))
+          (turns_then (map_of start) (map_of places) (map_of after) [] cells (cells ++ lease_cell work ∷ []) here.turned
           (turns_same (map_of places) (map_of after) cells cells (lease_cell work ∷ cells) (cells ++ lease_cell work ∷ []) (λ i. refl) (same_swap (lease_cell work ∷ []) cells)
-          (turns_before (map_of places) (map_of after) [] (lease_cell work ∷ []) cells (put_turns places id node (lent_none places id here)))));
-      lent = one_given_back places id node ids lent;
+          (turns_before (map_of places) (map_of after) [] (lease_cell work ∷ []) cells (put_turns places id node (lent_none places id here.lent.each.0)))));
+      lent = one_given_back places id node (lease_ids (present left)) here.lent;
     }

@@ -3,7 +3,6 @@ use Rattle.std.proofs.Common.{◌≡◌, ◌≢◌, List, [], ◌∷◌, ◌++�
 use mathlib.Core.Logic.{dite}
 use native.Mathlib.Decide.{ℕ_discrete}
 use Rattle.std.specs.List.{AllByRecursion}
-use Rattle.palm_base.proofs.Pieces.{every_split}
 use Rattle.palm_node.specs.declared.id.NodeId.{NodeId}
 use Rattle.palm_node.specs.declared.node.Node.{Node}
 use Rattle.palm_arena.specs.declared.place.Place.{Place}
@@ -30,12 +29,6 @@ one_of_end id other (first ∷ ids) (inl same) = inr (one_of_end id other ids (i
 one_of_end id other (first ∷ ids) (inr (inl own)) = inl own
 one_of_end id other (first ∷ ids) (inr (inr later)) = inr (one_of_end id other ids (inr later))
 
-end_one_of : (id other : NodeId) (ids : List NodeId) → IsOneOf id (ids ++ other ∷ []) → (id ≡ other) ⊎ IsOneOf id ids
-end_one_of id other [] (inl same) = inl same
-end_one_of id other [] (inr none) = absurd none
-end_one_of id other (first ∷ ids) (inl own) = inr (inl own)
-end_one_of id other (first ∷ ids) (inr later) = elim (end_one_of id other ids later) [ inl same ↦ inl same | inr among ↦ inr (inr among) ]
-
 apart_end : (first id : NodeId) (ids : List NodeId) → AllByRecursion (λ other. first ≢ other) ids → first ≢ id → AllByRecursion (λ other. first ≢ other) (ids ++ id ∷ [])
 apart_end first id [] all apart = (apart, tt)
 apart_end first id (other ∷ ids) all apart = (all.0, apart_end first id ids all.1 apart)
@@ -60,20 +53,15 @@ one_more_lent places id node ids held lent = record {
     by other here (inl same) = inl same
     by other here (inr apart) = inr (lent.only other (sym (others_stay places id other Lent apart) ∙ here))
 
--- The last is given back.
-pub last_is_lent : (places : List Place) (id : NodeId) (ids : List NodeId) → AllLent places (ids ++ id ∷ []) → IsLent places id
-last_is_lent places id [] all = all.0
-last_is_lent places id (first ∷ ids) all = last_is_lent places id ids all.2
+-- What stands at another place stays lent.
+others_lent : (places : List Place) (id : NodeId) (place : Place) (ids : List NodeId) → AllByRecursion (λ other. id ≢ other) ids → AllLent places ids → AllLent (with_place places id place) ids
+others_lent places id place [] apart all = tt
+others_lent places id place (first ∷ ids) apart all = (others_stay places id first place (λ same. apart.0 (sym same)) ∙ all.0, all.1, others_lent places id place ids apart.1 all.2)
 
-given_end : (places : List Place) (id : NodeId) (place : Place) (ids : List NodeId) → AllLent places (ids ++ id ∷ []) → AllLent (with_place places id place) ids
-given_end places id place [] all = tt
-given_end places id place (first ∷ ids) all =
-    let split = every_split (λ other. first ≢ other) ids (id ∷ []) all.1 in
-    (others_stay places id first place split.1.0 ∙ all.0, split.0, given_end places id place ids all.2)
-
-pub one_given_back : (places : List Place) (id : NodeId) (node : Node) (ids : List NodeId) → LentAre places (ids ++ id ∷ []) → LentAre (with_place places id (Holds node)) ids
+-- The first is given back.
+pub one_given_back : (places : List Place) (id : NodeId) (node : Node) (ids : List NodeId) → LentAre places (id ∷ ids) → LentAre (with_place places id (Holds node)) ids
 one_given_back places id node ids lent = record {
-  each = given_end places id (Holds node) ids lent.each;
+  each = others_lent places id (Holds node) ids lent.each.1 lent.each.2;
   only = λ other here. by other here (same_or_other other id);
 }
   where
@@ -83,4 +71,4 @@ one_given_back places id node ids lent = record {
         let clash : Lent ≡ Holds node = sym here ∙ held in
         absurd cc
     by other here (inr apart) =
-        elim (end_one_of other id ids (lent.only other (sym (others_stay places id other (Holds node) apart) ∙ here))) [ inl same ↦ absurd (apart same) | inr among ↦ among ]
+        elim (lent.only other (sym (others_stay places id other (Holds node) apart) ∙ here)) [ inl same ↦ absurd (apart same) | inr among ↦ among ]

@@ -1,8 +1,8 @@
 -- One leaf more is settled.
 use Rattle.std.proofs.Common.{◌≡◌, List, [], ◌∷◌, ◌++◌, length, map, refl, sym, ap, ◌∙◌, append_assoc, subst, Some}
-use Rattle.std.specs.Prelude.{Option, reverse}
+use Rattle.std.specs.Prelude.{Option}
 use Rattle.std.specs.List.{flat_map}
-use Rattle.std.proofs.lemmas.List.{append-nil, reverse-append}
+use Rattle.std.proofs.lemmas.List.{append-nil}
 use Rattle.std.proofs.lemmas.List.Concat.{flat_map-append}
 use mathlib.Core.List.{map-append}
 use Rattle.palm_base.specs.declared.row.Row.{Row}
@@ -62,35 +62,30 @@ ends_more old mid new before cell ends end changes loose ids far many turned =
           (turns_same mid new (cell ∷ held) (held ++ cell ∷ []) (cells ++ held) (held ++ cells) (same_swap held (cell ∷ [])) (same_swap cells held) (turns_before mid new (cell ∷ []) cells held turned)));
     }
 
--- How far the settling has come: `left` are the leaves that are still to be settled, from the last to the first.
-pub record SettleSoFar (start places : List Place) (all left : List LeafDone) (gathered : Gathered) : Type 0 where
-  pub front : List LeafDone
-  pub whole : front ++ reverse left ≡ reverse all
+-- How far the settling has come: `front` are the leaves that are settled.
+pub record SettleSoFar (start places : List Place) (front : List LeafDone) (gathered : Gathered) : Type 0 where
   pub ends : LeavesEnd (map_of start) (map_of places) (done_cells (map_of start) front) (map (end_of_done (map_of start)) front) gathered.nodes gathered.loose.items
   pub answers : gathered.answers ≡ answers_of_done front
 
-last_first : (left before : List LeafDone) (done : LeafDone) → before ≡ left ++ done ∷ [] → reverse before ≡ done ∷ reverse left
-last_first left before done popped = ap reverse popped ∙ reverse-append left (done ∷ [])
-
 -- The next leaf is still there.
-pub next_done : (start places : List Place) (all left before : List LeafDone) (done : LeafDone) (gathered : Gathered) (others : List Cell) → before ≡ left ++ done ∷ [] → SettleSoFar start places all before gathered
-    → Owns (map_of start) (done_cells (map_of start) (reverse all) ++ others) → node_at places done.id ≡ Some (Leaf (rows_at (map_of start) done.id))
-next_done start places all left before done gathered others popped far owned =
+pub next_done : (start places : List Place) (all front left : List LeafDone) (done : LeafDone) (gathered : Gathered) (others : List Cell) → front ++ done ∷ left ≡ all → SettleSoFar start places front gathered
+    → Owns (map_of start) (done_cells (map_of start) all ++ others) → node_at places done.id ≡ Some (Leaf (rows_at (map_of start) done.id))
+next_done start places all front left done gathered others are far owned =
     let cells = done_cells (map_of start) in
-    let rest = cells (reverse left) ++ others in
-    let held = cells_at far.ends.ids (map (end_of_done (map_of start)) far.front) in
+    let rest = cells left ++ others in
+    let held = cells_at far.ends.ids (map (end_of_done (map_of start)) front) in
     let cell = leaf_cell (map_of start) done.id in
-    let whole : cells (reverse all) ++ others ≡ cells far.front ++ (cell ∷ rest) =
-    ap (λ (ds : List LeafDone). cells ds ++ others) (sym far.whole ∙ ap (λ (ds : List LeafDone). far.front ++ ds) (last_first left before done popped))
-    ∙ ap (λ (cs : List Cell). cs ++ others) (map-append (λ (d : LeafDone). leaf_cell (map_of start) d.id) far.front (done ∷ reverse left))
-    ∙ append_assoc (cells far.front) (cells (done ∷ reverse left)) others in
+    let whole : cells all ++ others ≡ cells front ++ (cell ∷ rest) =
+    ap (λ (ds : List LeafDone). cells ds ++ others) (sym are)
+    ∙ ap (λ (cs : List Cell). cs ++ others) (map-append (λ (d : LeafDone). leaf_cell (map_of start) d.id) front (done ∷ left))
+    ∙ append_assoc (cells front) (cells (done ∷ left)) others in
     let now : Owns (map_of places) (held ++ (cell ∷ rest)) = far.ends.turned (cell ∷ rest) (subst (Owns (map_of start)) whole owned) in
     (owned_front (map_of places) done.id (Leaf (rows_at (map_of start) done.id)) (held ++ rest) (owned_same (map_of places) (held ++ (cell ∷ rest)) (cell ∷ (held ++ rest)) now (same_pass held (cell ∷ []) rest))).0
 
-pub one_settled : (start places next : List Place) (all left before : List LeafDone) (done : LeafDone) (gathered more : Gathered) (others : List Cell) → before ≡ left ++ done ∷ [] → SettleSoFar start places all before gathered
-    → Owns (map_of start) (done_cells (map_of start) (reverse all) ++ others) → EndsWith (map_of places) (map_of next) done gathered more → SettleSoFar start next all left more
-one_settled start places next all left before done gathered more others popped far owned ended =
-    let held = next_done start places all left before done gathered others popped far owned in
+pub one_settled : (start places next : List Place) (all front left : List LeafDone) (done : LeafDone) (gathered more : Gathered) (others : List Cell) → front ++ done ∷ left ≡ all → SettleSoFar start places front gathered
+    → Owns (map_of start) (done_cells (map_of start) all ++ others) → EndsWith (map_of places) (map_of next) done gathered more → SettleSoFar start next (front ++ done ∷ []) more
+one_settled start places next all front left done gathered more others are far owned ended =
+    let held = next_done start places all front left done gathered others are far owned in
     let same : rows_at (map_of places) done.id ≡ rows_at (map_of start) done.id = ap rows_in_node held in
     let end = end_of_done (map_of start) done in
     let as_end : end_of_done (map_of places) done ≡ end =
@@ -102,12 +97,10 @@ one_settled start places next all left before done gathered more others popped f
     let many : length ids ≡ length end.outcome.pieces = subst (λ (e : LeafEnd). length ids ≡ length e.outcome.pieces) as_end ended.many in
     let nodes : more.nodes ≡ gathered.nodes ++ change_at ids end ∷ [] = subst (λ (e : LeafEnd). more.nodes ≡ gathered.nodes ++ change_at ids e ∷ []) as_end ended.nodes-are in
     let loose : more.loose.items ≡ gathered.loose.items ++ end.outcome.loose = subst (λ (e : LeafEnd). more.loose.items ≡ gathered.loose.items ++ e.outcome.loose) as_end ended.loose-are in
-    let grown = ends_more (map_of start) (map_of places) (map_of next) (done_cells (map_of start) far.front) (leaf_cell (map_of start) done.id) (map (end_of_done (map_of start)) far.front) end gathered.nodes gathered.loose.items ids far.ends many turned in
+    let grown = ends_more (map_of start) (map_of places) (map_of next) (done_cells (map_of start) front) (leaf_cell (map_of start) done.id) (map (end_of_done (map_of start)) front) end gathered.nodes gathered.loose.items ids far.ends many turned in
     record {
-      front = far.front ++ done ∷ [];
-      whole = append_assoc far.front (done ∷ []) (reverse left) ∙ ap (λ (ds : List LeafDone). far.front ++ ds) (sym (last_first left before done popped)) ∙ far.whole;
       ends =
-          rw (nodes, loose, map-append (λ (d : LeafDone). leaf_cell (map_of start) d.id) far.front (done ∷ []), map-append (end_of_done (map_of start)) far.front (done ∷ [])) grown;
+          rw (nodes, loose, map-append (λ (d : LeafDone). leaf_cell (map_of start) d.id) front (done ∷ []), map-append (end_of_done (map_of start)) front (done ∷ [])) grown;
       answers =
-          ended.answers-are ∙ ap (λ told. told ++ answers_of_plan done.plan) far.answers ∙ sym (flat_end (λ (d : LeafDone). answers_of_plan d.plan) far.front done);
+          ended.answers-are ∙ ap (λ told. told ++ answers_of_plan done.plan) far.answers ∙ sym (flat_end (λ (d : LeafDone). answers_of_plan d.plan) front done);
     }

@@ -1,5 +1,5 @@
 // Leaves are lent with their plans, worked on beside each other, and given back.
-ghost use Rattle.std.specs.Prelude.{◌≡◌, ◌≤◌, ◌+◌, ◌++◌, ◌∷◌, [], List, length, map, reverse, Some, IsSome, IfOk, OnOk, OnErr, vec_len, vec_capacity};
+ghost use Rattle.std.specs.Prelude.{◌≡◌, ◌≤◌, ◌+◌, ◌++◌, ◌∷◌, [], List, length, map, Some, IsSome, IfOk, OnOk, OnErr, vec_len, vec_capacity};
 ghost use Rattle.std.specs.List.{AllByRecursion};
 ghost use Rattle.palm_base.specs.declared.row.Row.{Row};
 ghost use Rattle.palm_node.specs.declared.node.Node.TheVariants.{Leaf};
@@ -98,25 +98,26 @@ fn give_back<'a>(arena: &mut Arena, work: LeafWork<'a>) -> LeafDone<'a>
     LeafDone { id, plan }
 }
 
-/// Gives all leaves back, and lists them from the last to the first.
+/// Gives all leaves back, and lists them in their order.
 pub fn give_leaves_back<'a>(
     arena: &mut Arena,
-    mut works: Vec<Option<LeafWork<'a>>>,
+    works: Vec<Option<LeafWork<'a>>>,
     done: &mut Vec<LeafDone<'a>>,
 )
     requires lent { LentAre arena.old.places (lease_ids (present works.items)) }
     requires empty { done.old.items ≡ [] }
     requires room { vec_len works ≤ vec_capacity done.old }
-    ensures done { done.new.items ≡ map done_of (reverse (present works.entry.items)) }
-    ensures turned { Turns (map_of arena.old.places) (map_of arena.new.places) [] (map lease_cell (reverse (present works.entry.items))) }
+    ensures done { done.new.items ≡ map done_of (present works.entry.items) }
+    ensures turned { Turns (map_of arena.old.places) (map_of arena.new.places) [] (map lease_cell (present works.entry.items)) }
     ensures none_lent { NoneLent arena.new.places }
     ensures begun { arena.new.begun ≡ arena.old.begun }
     ensures moved { arena.new.moved ≡ arena.old.moved }
 {
-    while let Some(item) = works.pop() {
+    let mut left = works.into_iter();
+    while let Some(item) = left.next() {
         if let Some(work) = item {
             done.push_reserved(give_back(arena, work));
         }
     }
-    works.destroy_empty();
+    left.destroy_empty();
 }

@@ -1,6 +1,6 @@
 // Leaves that were given back are settled: the later leaves of each are put into the arena, and one that isn't kept is
 // dropped. Where memory is refused the batch is abandoned, so what was done so far stays as it is.
-ghost use Rattle.std.specs.Prelude.{◌≡◌, ◌≤◌, ◌+◌, ◌++◌, ◌∷◌, [], List, length, map, reverse, sum_by, Some, IsSome, IfOk, OnOk};
+ghost use Rattle.std.specs.Prelude.{◌≡◌, ◌≤◌, ◌+◌, ◌++◌, ◌∷◌, [], List, length, map, sum_by, Some, IsSome, IfOk, OnOk};
 ghost use Rattle.palm_base.specs.declared.row.Row.{Row};
 ghost use Rattle.palm_node.specs.declared.node.Node.TheVariants.{Leaf};
 ghost use Rattle.palm_arena.specs.ArenaState.{node_at, NoneLent};
@@ -190,19 +190,19 @@ fn part_count(done: &[LeafDone<'_>]) -> usize {
     count
 }
 
-/// Settles all leaves, which are listed from the last to the first. It counts a step for each later leaf. `NoMemory` where
+/// Settles all leaves in their order. It counts a step for each later leaf. `NoMemory` where
 /// memory was refused: what was done so far stays, so the batch has to be rolled back.
 pub fn settle_leaves<L: Ledger>(
     alloc: Global,
     arena: &mut Arena,
-    mut done: Vec<LeafDone<'_>>,
+    done: Vec<LeafDone<'_>>,
     steps: &mut Steps<L>,
 ) -> Result<Gathered, NoMemory>
     requires under_way { IsSome arena.old.begun }
     requires none_lent { NoneLent arena.old.places }
-    requires leaves { (others : List Cell) × Owns (map_of arena.old.places) (done_cells (map_of arena.old.places) (reverse done.items) ++ others) }
-    ensures ends { IfOk result (λ gathered. LeavesEnd (map_of arena.old.places) (map_of arena.new.places) (done_cells (map_of arena.old.places) (reverse done.entry.items)) (map (end_of_done (map_of arena.old.places)) (reverse done.entry.items)) gathered.nodes gathered.loose.items) }
-    ensures answers { IfOk result (λ gathered. gathered.answers ≡ answers_of_done (reverse done.entry.items)) }
+    requires leaves { (others : List Cell) × Owns (map_of arena.old.places) (done_cells (map_of arena.old.places) done.items ++ others) }
+    ensures ends { IfOk result (λ gathered. LeavesEnd (map_of arena.old.places) (map_of arena.new.places) (done_cells (map_of arena.old.places) done.entry.items) (map (end_of_done (map_of arena.old.places)) done.entry.items) gathered.nodes gathered.loose.items) }
+    ensures answers { IfOk result (λ gathered. gathered.answers ≡ answers_of_done done.entry.items) }
     ensures begun { arena.new.begun ≡ arena.old.begun }
     ensures none_lent { NoneLent arena.new.places }
     ensures ticks { steps.new ≤ steps.old + sum_by (λ done. length done.plan.later.items) done.entry.items }
@@ -213,7 +213,7 @@ pub fn settle_leaves<L: Ledger>(
         nodes: ChangeList::from_vec(Vec::with_capacity(alloc, done.len())?),
         loose: Vec::new(alloc),
     };
-    while let Some(leaf) = done.pop() {
+    for leaf in done {
         settle(alloc, arena, leaf, &mut gathered, steps)?;
     }
     Ok(gathered)

@@ -5,7 +5,7 @@ use Rattle.palm_arena.specs.Reads.{map_of}
 use Rattle.palm_share.specs.Jobs.{Holds, Relates}
 use Rattle.palm_leaf.specs.Lending.{present, LentAre}
 use Rattle.palm_leaf.specs.Worked.{IsReady, HasRun}
-use Rattle.palm_leaf.proofs.LeavesRun.{all_ready, all_run, some_parts, later_few, given_owned, done_owned, leaves_done}
+use Rattle.palm_leaf.proofs.LeavesRun.{all_ready, all_run, some_parts, later_few, done_owned, leaves_done}
 use Rattle.palm_leaf.proofs.leaves.work_leaves.Goals as goal
 
 pub run_works-requires-clause-ready : goal.run_works-requires-clause-ready
@@ -30,9 +30,11 @@ settle_leaves-requires-clause-leaves g c =
     let works = c.lend_leaves.new.works.items in
     let after = c.run_works.new.works.items in
     let others = c.requires.groups.leaves.0 in
-    let run = all_run start c.args.least groups (present works) after c.in-Ok.ensures.loaded (subst (λ ws. AllZip (Relates HasRun) ws after) (sym c.in-Ok.ensures.works) c.run_works.ensures.ran) in
-    let now = given_owned start lent back c.args.least groups (present after) others c.requires.groups.leaves.1 c.in-Ok.ensures.turned c.give_leaves_back.ensures.turned in
-    (others, (done_owned start back c.args.least groups (present after) c.give_leaves_back.new.done.items others run.ends now c.give_leaves_back.ensures.done).1)
+    let run = all_run start c.args.least groups (present works) after c.in-Ok.ensures.loaded (subst (λ ws. AllZip (Relates HasRun) ws after) (sym c.in-Ok.ensures.works) c.run_works.ensures.ran) in (
+      others,
+      done_owned start lent back c.args.least groups (present after) c.give_leaves_back.new.done.items others run.ends c.requires.groups.leaves.1 c.in-Ok.ensures.turned c.give_leaves_back.ensures.turned
+          c.give_leaves_back.ensures.done,
+    )
 
 pub returns-in_err-gathered-in-Ok-clause-ticks : goal.returns-in_err-gathered-in-Ok-clause-ticks
 returns-in_err-gathered-in-Ok-clause-ticks g c =
