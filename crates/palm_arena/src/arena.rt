@@ -51,7 +51,7 @@ fn reuse(
     id: NodeId,
     node: Node,
 ) -> Result<NodeId, NoMemory>
-    requires within { id.place < length places.old.items }
+    requires inside { id.place < length places.old.items }
     requires marks { length journal.old.touched.items ≡ length places.old.items }
     requires vacant { IsVacant places.old.items id }
     requires untouched { ¬ IsMarked journal.old.touched.items id.place }

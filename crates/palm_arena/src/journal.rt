@@ -58,7 +58,7 @@ impl Journal {
 
     /// Saves what stands at a place, if it isn't saved yet. Nothing is saved where memory is refused.
     pub(crate) fn save(&mut self, id: NodeId, places: &[Place]) -> Result<(), NoMemory>
-        requires within { id.place < length places.now }
+        requires inside { id.place < length places.now }
         requires marks { length self.old.touched.items ≡ length places.now }
         ensures ok { OnOk result (Saves id (place_at places.now id) self.old self.new) }
         ensures err { OnErr result (IsSame self.old self.new) }
@@ -92,7 +92,7 @@ impl Journal {
     /// An id that is free, and was when the batch began. `None` where the one that was tried is in use.
     pub(crate) fn vacant(&mut self, places: &[Place]) -> Option<NodeId>
         requires { length self.old.touched.items ≡ length places.now }
-        ensures within { IfSome result (λ id. id.place < length places.now) }
+        ensures inside { IfSome result (λ id. id.place < length places.now) }
         ensures vacant { IfSome result (λ id. IsVacant places.now id) }
         ensures untouched { IfSome result (λ id. ¬ IsMarked self.old.touched.items id.place) }
         ensures same { IsSame self.old self.new }

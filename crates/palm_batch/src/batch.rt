@@ -33,7 +33,7 @@ pub fn run_batch<R: Threads + Sync, G: Gate + Sync, L: Ledger>(
     gate: &G,
     steps: &mut Steps<L>,
 ) -> Result<Vec<Reply>, NoMemory>
-    requires most { length batch.now ≤ MOST_CALLS }
+    requires few_calls { length batch.now ≤ MOST_CALLS }
     requires some { 1 ≤ workers }
     requires few { workers ≤ MOST_WORKERS }
     ensures tree { OnOk result (tree_in tree.new ≡ batch_tree (tree_in tree.old) (calls_of batch.now)) }

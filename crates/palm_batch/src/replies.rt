@@ -62,7 +62,7 @@ fn join_rate(call: &Call, key: u64, rate: Option<Amount>, reply: &mut Reply)
 
 // Puts rows behind others, as many as a limit allows. Where there are none yet they are moved.
 fn append_rows(rows: &mut RowList, found: RowList, limit: usize) -> Result<(), NoMemory>
-    requires held { length rows.old ≤ limit }
+    requires within { length rows.old ≤ limit }
     requires few { length found ≤ limit }
     ensures ok { OnOk result (rows.new ≡ take limit (rows.old ++ found)) }
 {
@@ -110,7 +110,7 @@ fn join_answer(call: &Call, answer: PartAnswer, reply: &mut Reply) -> Result<(),
 
 // Joins each answer to the reply at the place of its entry.
 fn join_all(batch: &[Entry], answers: AnswerList, replies: &mut [Reply]) -> Result<(), NoMemory>
-    requires begun { replies.old ≡ map (λ entry. unanswered entry.call) batch.now }
+    requires unanswered { replies.old ≡ map (λ entry. unanswered entry.call) batch.now }
     requires fit { AllByRecursion (FitsEntry batch.now) answers }
     ensures ok { OnOk result (replies.new ≡ replies_joined 0 batch.now answers) }
 {

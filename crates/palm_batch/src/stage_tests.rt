@@ -368,7 +368,7 @@ fn replied<R: Threads + Sync, G: Gate + Sync, L: Ledger>(
     requires blank_name { blank.name ≡ L.name }
     requires blank_parts { blank.parts ≡ L.parts }
     requires blank { 0 < blank.parts }
-    requires most { length batch.now ≤ MOST_CALLS }
+    requires few_calls { length batch.now ≤ MOST_CALLS }
     requires some { 1 ≤ workers }
     requires few { workers ≤ MOST_WORKERS }
 {

@@ -49,7 +49,7 @@ impl Engine {
         gate: &G,
         steps: &mut Steps<L>,
     ) -> Result<Vec<Reply>, NoMemory>
-        requires one { 1 ≤ max }
+        requires least { 1 ≤ max }
         requires most { max ≤ MOST_CALLS }
         requires some { 1 ≤ workers }
         requires few { workers ≤ MOST_WORKERS }

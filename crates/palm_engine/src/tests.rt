@@ -70,7 +70,7 @@ fn run_all<R: Threads + Sync + Abort, L: Ledger>(
     workers: u32,
     steps: &mut Steps<L>,
 ) -> Result<(), NoMemory>
-    requires one { 1 ≤ max }
+    requires least { 1 ≤ max }
     requires most { max ≤ MOST_CALLS }
     requires some { 1 ≤ workers }
     requires few { workers ≤ MOST_WORKERS }
@@ -95,7 +95,7 @@ fn run_history<R: Threads + Sync + Abort, L: Ledger>(
     workers: u32,
     steps: &mut Steps<L>,
 ) -> Result<(), NoMemory>
-    requires one { 1 ≤ max }
+    requires least { 1 ≤ max }
     requires most { max ≤ MOST_CALLS }
     requires some { 1 ≤ workers }
     requires few { workers ≤ MOST_WORKERS }
@@ -125,7 +125,7 @@ fn left_with<R: Threads + Sync + Abort, L: Ledger>(
     requires blank_name { blank.name ≡ L.name }
     requires blank_parts { blank.parts ≡ L.parts }
     requires blank { 0 < blank.parts }
-    requires one { 1 ≤ max }
+    requires least { 1 ≤ max }
     requires most { max ≤ MOST_CALLS }
     requires some { 1 ≤ workers }
     requires few { workers ≤ MOST_WORKERS }
@@ -144,7 +144,7 @@ fn left_by<R: Threads + Sync + Abort>(
     max: u32,
     workers: u32,
 ) -> Result<Vec<u8>, NoMemory>
-    requires one { 1 ≤ max }
+    requires least { 1 ≤ max }
     requires most { max ≤ MOST_CALLS }
     requires some { 1 ≤ workers }
     requires few { workers ≤ MOST_WORKERS }
@@ -203,7 +203,7 @@ fn assert_left<R: Threads + Sync + Abort>(
     max: u32,
     expected: &[u8],
 ) -> Result<(), NoMemory>
-    requires one { 1 ≤ max }
+    requires least { 1 ≤ max }
     requires most { max ≤ MOST_CALLS }
 {
     for workers in [1, 3, MOST_WORKERS] {
@@ -314,7 +314,7 @@ fn front_with<R: Threads + Sync + Abort, L: Ledger>(
     requires blank_name { blank.name ≡ L.name }
     requires blank_parts { blank.parts ≡ L.parts }
     requires blank { 0 < blank.parts }
-    requires one { 1 ≤ max }
+    requires least { 1 ≤ max }
     requires most { max ≤ MOST_CALLS }
 {
     let mut steps = Steps::<L>::new(blank);

@@ -66,7 +66,7 @@ pub(crate) fn raise<L: Ledger>(
     steps: &mut Steps<L>,
 ) -> Result<Shape, NoMemory>
     requires some { 1 ≤ length lowest }
-    requires low { below ≤ MOST_LEVELS }
+    requires most { below ≤ MOST_LEVELS }
     requires under_way { IsSome arena.old.begun }
     requires none_lent { NoneLent arena.old.places }
     requires level { (tree : Tree) × (others : List Cell) × IsLevel tree others (map_of arena.old.places) below lowest }

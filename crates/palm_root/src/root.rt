@@ -101,7 +101,7 @@ fn put_root<L: Ledger>(
 ) -> Result<Shape, NoMemory>
     requires under_way { IsSome arena.old.begun }
     requires none_lent { NoneLent arena.old.places }
-    requires low { below ≤ MOST_LEVELS }
+    requires most { below ≤ MOST_LEVELS }
     requires left { (p : Pass) × (changes : Changes) × HasLeft p [] (map_of arena.old.places) changes below level }
     ensures repaired { IfOk result (λ shape. (p : Pass) (changes : Changes) → HasLeft p [] (map_of arena.old.places) changes below level → IsRepaired p (map_of arena.new.places) changes shape) }
     ensures begun { arena.new.begun ≡ arena.old.begun }

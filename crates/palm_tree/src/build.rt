@@ -62,7 +62,7 @@ fn add_leaves<L: Ledger>(
     steps: &mut Steps<L>,
 ) -> Result<PieceList, NoMemory>
     requires table { IsTable rows.now }
-    requires none { arena.old.places ≡ [] }
+    requires empty { arena.old.places ≡ [] }
     requires under_way { IsSome arena.old.begun }
     ensures level { IfOk result (λ leaves. IsLevel (map_of arena.new.places) zero leaves (leaves_of 0 rows.now)) }
     ensures under_way { OnOk result (IsSome arena.new.begun) }
@@ -117,7 +117,7 @@ fn put_nodes<L: Ledger>(
 ) -> Result<Shape, NoMemory>
     requires some { 0 < length rows.now }
     requires table { IsTable rows.now }
-    requires none { arena.old.places ≡ [] }
+    requires empty { arena.old.places ≡ [] }
     requires under_way { IsSome arena.old.begun }
     ensures whole { IfOk result (λ shape. IsWhole (map_of arena.new.places) shape) }
     ensures tree { IfOk result (λ shape. tree_of arena.new.places shape ≡ top zero (leaves_of 0 rows.now)) }

@@ -21,7 +21,7 @@ struct Range {
 
 // Appends a leaf's rows of the range, as far as the limit allows.
 fn append_from_leaf(leaf: &Leaf, range: &Range, rows: &mut RowList) -> Result<(), NoMemory>
-    requires room { length rows.old ≤ range.now.limit }
+    requires within { length rows.old ≤ range.now.limit }
     ensures ok { OnOk result (rows.new ≡ take range.now.limit (rows.old ++ filter (lies_within range.now.from range.now.to) leaf.now)) }
 {
     for i in 0..leaf.len() {
@@ -47,7 +47,7 @@ fn append_below(
     rows: &mut RowList,
 ) -> Result<(), NoMemory>
     requires node { HasNodeBelow arena.now.places below id }
-    requires room { length rows.old ≤ range.now.limit }
+    requires within { length rows.old ≤ range.now.limit }
     ensures ok { OnOk result (rows.new ≡ take range.now.limit (rows.old ++ filter (lies_within range.now.from range.now.to) (rows_below arena.now.places below id))) }
 {
     let inner = match arena.read(id) {

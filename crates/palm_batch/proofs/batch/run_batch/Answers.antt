@@ -25,7 +25,7 @@ rows_after-tree-inside-requires-clause-fits g c =
     let own = c.tree.inside in
     let tree = tree_of own.arena.places own.shape in
     let is = tree_stands own.arena c.begin.new.self own.shape own.rows c.tree.invariant (ap (λ (a : ArenaState). a.places) c.begin.ensures) in
-    rows_fit tree c.args.batch.now c.deref.result.now own.rows is.lawful is.lows (c.deref.ensures.value ∙ c.in-Ok.ensures.replies tree is) c.tree.invariant.count c.requires.most
+    rows_fit tree c.args.batch.now c.deref.result.now own.rows is.lawful is.lows (c.deref.ensures.value ∙ c.in-Ok.ensures.replies tree is) c.tree.invariant.count c.requires.few_calls
 
 pub rows_after-tree-inside-requires-clause-gone : goal.rows_after-tree-inside-requires-clause-gone
 rows_after-tree-inside-requires-clause-gone g c =

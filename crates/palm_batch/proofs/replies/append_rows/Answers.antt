@@ -10,5 +10,5 @@ returns c =
     let room = c.min-room.ensures ∙ ap (λ n. min (c.args.limit - n) c.len-2.result) c.len.ensures ∙ ap (min (c.args.limit - length held)) c.len-2.ensures in
     record {
       ok = c.loop-row.invariant ∙ ap (λ (rows : List Row). held ++ rows) (take_all c.loop-row.row-index (take c.min-room.result c.as_slice.result.now) c.loop-row-test.false ∙ ap (take c.min-room.result) c.as_slice.ensures)
-          ∙ behind c.args.limit c.min-room.result held c.args.found c.requires.held room;
+          ∙ behind c.args.limit c.min-room.result held c.args.found c.requires.within room;
     }

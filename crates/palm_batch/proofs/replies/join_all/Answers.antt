@@ -6,7 +6,7 @@ use Rattle.palm_batch.proofs.replies.join_all.Goals as goal
 
 pub loop-answer-init : goal.loop-answer-init
 loop-answer-init c = record {
-  replies = c.requires.begun ∙ none_joined 0 c.args.batch.now;
+  replies = c.requires.unanswered ∙ none_joined 0 c.args.batch.now;
   fit = subst (AllByRecursion (FitsEntry c.args.batch.now)) (sym (c.into_iter-answer-iterator.ensures.into_iter_gives.0 ∙ c.into_list-answer-items.ensures)) c.requires.fit;
 }
 

@@ -10,7 +10,7 @@ loop-alloc-init g c = record {
   level = λ tree others is. subst (λ n. IsLevel tree others (map_of c.args.arena.now.places) n c.args.lowest) (omega arith) is;
   some = c.requires.some;
   counted = omega arith;
-  few = λ fit. few_first (length c.args.lowest) c.args.below fit c.requires.low;
+  few = λ fit. few_first (length c.args.lowest) c.args.below fit c.requires.most;
   begun = refl;
   none_lent = c.requires.none_lent;
   ticks = ticks_first (length c.args.lowest) c.args.steps.now;
@@ -31,7 +31,7 @@ returns-in_err-level-clause-ticks g c =
     ticks_refused (length c.args.lowest) (length c.loop-alloc.level) c.args.steps.now c.loop-alloc.steps c.take_level.new.steps (omega (arith, c.len.ensures, c.loop-alloc-test.true)) (rw (sym c.as_slice.ensures) c.take_level.ensures.ticks) c.loop-alloc.invariant.ticks
 
 pub overflow_add-levels : goal.overflow_add-levels
-overflow_add-levels g c = omega (arith, c.requires.low)
+overflow_add-levels g c = omega (arith, c.requires.most)
 
 pub overflow_add-levels-in-loop-alloc : goal.overflow_add-levels-in-loop-alloc
 overflow_add-levels-in-loop-alloc g c =

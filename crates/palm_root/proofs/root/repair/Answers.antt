@@ -8,8 +8,8 @@ use Rattle.palm_root.proofs.root.repair.Goals as goal
 pub drop_root-requires-clause-held : goal.drop_root-requires-clause-held
 drop_root-requires-clause-held g c more = root_is_held c.requires.stands.0 (map_of c.args.arena.now.places) c.args.shape c.args.changes.now c.requires.stands.1 more
 
-pub put_root-requires-clause-low : goal.put_root-requires-clause-low
-put_root-requires-clause-low g c = rw c.saturating_sub.ensures (few_below c.requires.stands.0 (map_of c.args.arena.now.places) c.args.shape c.args.changes.now c.requires.stands.1)
+pub put_root-requires-clause-most : goal.put_root-requires-clause-most
+put_root-requires-clause-most g c = rw c.saturating_sub.ensures (few_below c.requires.stands.0 (map_of c.args.arena.now.places) c.args.shape c.args.changes.now c.requires.stands.1)
 
 pub put_root-requires-clause-left : goal.put_root-requires-clause-left
 put_root-requires-clause-left g c =

@@ -9,7 +9,7 @@ use Rattle.palm_tree.proofs.build.add_leaves.Goals as goal
 
 pub loop-i-init : goal.loop-i-init
 loop-i-init g c = record {
-  far = leaves_first c.args.rows.now c.args.arena.now.places c.new-leaves.result c.requires.table c.requires.none c.new-leaves.ensures;
+  far = leaves_first c.args.rows.now c.args.arena.now.places c.new-leaves.result c.requires.table c.requires.empty c.new-leaves.ensures;
   under_way = c.requires.under_way;
 }
 

@@ -16,7 +16,7 @@ pub loop-i-init : goal.loop-i-init
 loop-i-init t c =
     let has = children_below _ _ _ _ _ c.requires.node c.read.ensures.node c.in-Inner.is in
     rw c.route-i.ensures.route
-    (children_begin _ _ c.args.range.now.limit c.args.rows.now _ _ _ _ _ has c.requires.room)
+    (children_begin _ _ c.args.range.now.limit c.args.rows.now _ _ _ _ _ has c.requires.within)
 
 pub overflow_sub-below : goal.overflow_sub-below
 overflow_sub-below t c =
