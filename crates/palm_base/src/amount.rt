@@ -1,6 +1,8 @@
 // Rates and limits: whole numbers within their bounds, so that a value of these types needs no further test.
 ghost use Rattle.std.specs.Prelude.{◌≡◌, ◌≤◌, ◌&&◌, nat_le, if◌then◌else◌, Some, None};
+ghost use Rattle.palm_base.specs.Numbers.{number_from_to};
 
+use crate::number::number_from_to;
 use std::marker::Model;
 
 /// The greatest rate, in the user's unit.
@@ -37,6 +39,13 @@ impl Amount {
             return None;
         }
         Some(Amount { value })
+    }
+
+    /// The rate that a number field spells. `None` exactly where the text is no number field or its value is above `MOST_RATE`.
+    pub fn read(field: &[u8]) -> Option<Amount>
+        ensures { result ≡ number_from_to 0 MOST_RATE field.now }
+    {
+        Amount::new(number_from_to(field, 0, MOST_RATE)?)
     }
 
     /// The value, in the user's unit.

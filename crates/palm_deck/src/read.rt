@@ -7,7 +7,7 @@ ghost use Rattle.palm_deck.specs.Deck.{without_mark as without, is_header as say
 
 use crate::deck::{Deck, DeckFault, DeckWhy};
 use csv::{ByteRecord, ReaderBuilder};
-use palm_base::{Amount, Call, Digits, Entry, MOST_RATE, number_from_to};
+use palm_base::{Amount, Call, Digits, Entry};
 use std::alloc::Global;
 
 // The fault of a deck whose first record isn't the header.
@@ -59,8 +59,7 @@ fn read_prefix(field: &[u8]) -> Result<Digits, DeckWhy>
 fn read_rate(field: &[u8]) -> Result<Amount, DeckWhy>
     ensures { result ≡ (if is_rate field.now then Ok (value_of field.now) else Err DeckWhy.Rate) }
 {
-    let rate = number_from_to(field, 0, MOST_RATE).ok_or(DeckWhy::Rate)?;
-    Amount::new(rate).ok_or(DeckWhy::Rate)
+    Amount::read(field).ok_or(DeckWhy::Rate)
 }
 
 fn read_set(prefix: &[u8], rate: &[u8]) -> Result<Call, DeckWhy>

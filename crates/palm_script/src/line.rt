@@ -5,7 +5,7 @@ ghost use Rattle.palm_base.specs.Prefix.{digits_in};
 ghost use Rattle.palm_base.specs.Numbers.{value_of, is_from_to};
 ghost use Rattle.palm_script.specs.Line.{is_blank, fields, is_caller, is_rate, is_limit, is_dialled, set_of, del_of, get_of, rate_of, list_of, call_of, made_by, alone, asked_by, meaning_of, line_of, LineFits};
 
-use palm_base::{Amount, Call, Digits, Limit, MOST_LIMIT, MOST_RATE, number_from_to};
+use palm_base::{Amount, Call, Digits, Limit, MOST_LIMIT, number_from_to};
 use std::error::Error;
 use std::fmt;
 
@@ -150,8 +150,7 @@ fn read_digits(field: &[u8], why: LineWhy) -> Result<Digits, LineWhy>
 fn read_rate(field: &[u8]) -> Result<Amount, LineWhy>
     ensures { result ≡ (if is_rate field.now then Ok (value_of field.now) else Err LineWhy.Rate) }
 {
-    let rate = read_number(field, 0, MOST_RATE, LineWhy::Rate)?;
-    Amount::new(rate).ok_or(LineWhy::Rate)
+    Amount::read(field).ok_or(LineWhy::Rate)
 }
 
 fn read_limit(field: &[u8]) -> Result<Limit, LineWhy>
