@@ -27,7 +27,7 @@ pub fn answer_batch<R: Threads + Sync, G: Gate + Sync, L: Ledger>(
     steps: &mut Steps<L>,
 ) -> Result<Vec<Reply>, NoMemory>
     requires settings { AreWithin settings.now }
-    requires most { length batch.now ≤ settings.now.batch }
+    requires within { length batch.now ≤ settings.now.batch }
     ensures replies { IfOk result (λ replies. replies.items ≡ replies_to (rows_of (tree_in engine.old.tree)) batch.now) }
     ensures many { IfOk result (λ replies. length replies.items ≡ length batch.now) }
     ensures tree { OnOk result (tree_in engine.new.tree ≡ batch_tree (tree_in engine.old.tree) (calls_of batch.now)) }

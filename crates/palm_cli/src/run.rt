@@ -63,7 +63,7 @@ fn replay_batch<R: Threads + Sync, G: Gate + Sync, L: Ledger>(
     text: &mut Vec<u8>,
 ) -> Result<(), NoMemory>
     requires settings { AreWithin settings.now }
-    requires most { length batch.now ≤ settings.now.batch }
+    requires within { length batch.now ≤ settings.now.batch }
     requires fits { n + length batch.now ≤ MOST_BYTES }
     ensures text { OnOk result (text.new.items ≡ text.old.items ++ batch_text settings.now.dump (come_to n (tree_in engine.old.tree)) batch.now) }
     ensures tree { OnOk result (tree_in engine.new.tree ≡ batch_tree (tree_in engine.old.tree) (calls_of batch.now)) }
@@ -90,7 +90,7 @@ fn write_batch<R: Threads + Sync, O: Sink, G: Gate + Sync, L: Ledger>(
     text: &mut Vec<u8>,
 ) -> Result<(), Stop>
     requires settings { AreWithin settings.now }
-    requires most { length batch.now ≤ settings.now.batch }
+    requires within { length batch.now ≤ settings.now.batch }
     requires fits { n + length batch.now ≤ MOST_BYTES }
     ensures text { OnOk result (Appends (O.taken out.old) (O.taken out.new) (batch_text settings.now.dump (come_to n (tree_in engine.old.tree)) batch.now)) }
     ensures front { OnErr result (AppendsFront (O.taken out.old) (O.taken out.new) (batch_text settings.now.dump (come_to n (tree_in engine.old.tree)) batch.now)) }
