@@ -17,3 +17,5 @@ pub mod NamedNodes
 pub mod PlacedTrees
 pub mod OwnedTrees
 pub mod RouteSteps
+pub mod TakenLevels
+pub mod Raised

@@ -5,6 +5,7 @@ pub mod Laws
 pub mod LeaseState
 pub mod Leaves
 pub mod LendsNode
+pub mod Levels
 pub mod Passes
 pub mod Placed
 pub mod Reads

@@ -135,13 +135,6 @@ next_fits width t i rest less at =
     subst (AllByRecursion (HasFromTo 1 width)) (left_next width t i rest less) at.fits in
     (step.0, split.0)
 
--- After the last piece nothing is left.
-pub cut_last : {X : Type 0} (width t i : ℕ) (rest : List X) → piece_count width t ≤ i → IsCutTo width t i rest → length rest ≡ 0
-cut_last width t i rest all at =
-    let none : piece_count width t - i ≡ 0 = omega arith in
-    let few : t % piece_count width t - i ≡ 0 = omega (arith, at.few) in
-    at.long ∙ rw (none, few) (omega arith)
-
 -- ---- the lows of nodes over pieces
 
 -- The nodes over the parts that are left, with their lows: the first of all has the low 0.

@@ -1,5 +1,3 @@
-pub mod Raised
 pub mod RootLeft
 pub mod RootStill
 pub mod Sweeping
-pub mod TakenLevels

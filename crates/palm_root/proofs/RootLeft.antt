@@ -30,8 +30,8 @@ use Rattle.palm_arena.specs.Sites.{Site, raised, sites_below}
 use Rattle.palm_arena.specs.Standing.{Result, is_hit, StandsForItself, IsRight, loose_of, Kept, kept_cells, kept_rows, Stands}
 use Rattle.palm_arena.specs.Passes.{Pass, is_among, leaf_sites, IsTouchedOrStill, IsPass, IsRepaired, StandsAlone}
 use Rattle.palm_arena.proofs.OwnedTrees.{values_length, first_value}
-use Rattle.palm_root.specs.Raising.{IsLevel}
-use Rattle.palm_root.proofs.Raised.{bare_length}
+use Rattle.palm_arena.specs.Levels.{IsLevel}
+use Rattle.palm_arena.proofs.Raised.{bare_length}
 use Rattle.palm_arena.proofs.SitePasses.{site_pass, outcome_below}
 use Rattle.palm_arena.proofs.CellLists.{owned_front}
 use Rattle.palm_level.specs.Families.{pieces_under}

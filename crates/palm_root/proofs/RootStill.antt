@@ -44,7 +44,7 @@ use Rattle.palm_level.proofs.Bare.{family_length}
 use Rattle.palm_level.proofs.LevelEnds.{still_bare}
 use Rattle.palm_level.proofs.Taking.{dropped_turns}
 use Rattle.palm_arena.specs.Passes.{IsWithin}
-use Rattle.palm_root.proofs.Raised.{bare_length}
+use Rattle.palm_arena.proofs.Raised.{bare_length}
 use Rattle.palm_root.specs.Roots.{StandsBelow, root_cells, HasLeft, IsFound, IsFew, IsHeadOf, HasPut, cell_at}
 use Rattle.palm_root.proofs.RootLeft.{LeafRoot, InnerRoot, at_root, inner_left, inner_held, leaf_left, left_alone, left_under}
 

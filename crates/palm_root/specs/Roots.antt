@@ -16,7 +16,7 @@ use Rattle.palm_arena.specs.Cells.{Cell, Owns}
 use Rattle.palm_arena.specs.Placed.{Placed, value_of, values, bare, cells_under}
 use Rattle.palm_arena.specs.Standing.{Kept, kept_cells, kept_rows, removed_of}
 use Rattle.palm_arena.specs.Passes.{Pass, IsPass, StandsAt, IsRepaired, outcome_of}
-use Rattle.palm_root.specs.Raising.{HasRaised}
+use Rattle.palm_arena.specs.Levels.{HasRaised}
 
 -- The level below the root of a tree of so many levels, counted from the leaves at 1, and that of the root where it is a leaf.
 -- So it is 2 of three levels, and 1 of two and of one.

@@ -2,7 +2,6 @@
 //! are put into the tree again by a pass of their own.
 #![tactic(auto)]
 
-mod raising;
 mod removal;
 mod root;
 

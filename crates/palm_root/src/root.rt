@@ -15,8 +15,7 @@ ghost use Rattle.palm_arena.specs.Cells.{Turns};
 ghost use Rattle.std.specs.Prelude.{[]};
 ghost use Rattle.palm_root.specs.Roots.{StandsBelow, HasLeft, IsFound, IsFew, IsHeadOf, HasPut, root_cells};
 
-use crate::raising::raise;
-use palm_arena::{Arena, Shape};
+use palm_arena::{Arena, Shape, raise};
 use palm_base::{NoMemory, Steps};
 use palm_level::{all_stand_alone, children_after};
 use palm_node::{Change, Changes, Leaf, Node, PieceList};

@@ -1,5 +1,8 @@
--- An arena of the tree over a table's leaves holds the tree that one batch of its rows leaves.
-use Rattle.std.proofs.Common.{◌≡◌, ℕ, zero, List, [], ◌∷◌, length, map, None, refl, sym, ap, subst, arith, ◌∙◌}
+-- From the leaves that a table is cut into up to the tree that one batch of its rows leaves.
+use Rattle.std.proofs.Common.{◌≡◌, ℕ, zero, ◌<◌, ◌≤◌, List, [], ◌∷◌, length, map, Option, None, refl, sym, ap, subst, arith, ◌∙◌}
+use Rattle.std.proofs.lemmas.List.{append-nil}
+use Rattle.palm_base.specs.Cut.{piece_count}
+use Rattle.palm_base.specs.declared.bounds.TheConstants.{MOST_LEAF_ROWS}
 use Rattle.palm_base.specs.Table.{IsTable}
 use Rattle.palm_base.specs.Tree.{Tree, rows_of}
 use Rattle.palm_base.specs.Pass.{leaves_of, top, set_of, batch_tree}
@@ -14,9 +17,55 @@ use Rattle.palm_base.proofs.RisingRows.{put_all_none}
 use Rattle.palm_base.proofs.RisingTables.{key_bound, table_rises}
 use Rattle.palm_arena.specs.ArenaState.{ArenaState, NoneLent}
 use Rattle.palm_arena.specs.Reads.{map_of, IsWhole}
+use Rattle.palm_arena.specs.Cells.{Owns}
+use Rattle.palm_arena.specs.Placed.{value_of, cells_under}
+use Rattle.palm_arena.specs.Passes.{StandsAlone}
+use Rattle.palm_arena.specs.Levels.{IsLevel}
+use Rattle.palm_arena.specs.declared.place.Place.{Place}
 use Rattle.palm_arena.specs.declared.shape.Shape.{Shape}
+use Rattle.palm_arena.proofs.OwnedTrees.{values_length, owned_reads, owned_whole}
+use Rattle.palm_arena.proofs.Raised.{bare_length}
+use Rattle.palm_node.specs.declared.id.NodeId.{NodeId}
+use Rattle.palm_node.specs.declared.id.Piece.{Piece}
+use Rattle.palm_node.specs.declared.node.Node.{Node}
+use Rattle.palm_node.proofs.TopLevels.{IsOrderly, leaves_orderly, leaves_count}
+use Rattle.palm_tree.specs.BuiltLeaves.{AreLeaves}
 use Rattle.palm_tree.specs.TreeValue.{tree_of, HoldsTree}
+use Rattle.palm_tree.proofs.Values.{tree_reads}
 use Rattle.palm_base.proofs.Builds.{leaf_top, leaves_lawful, built}
+
+-- ---- the leaves, and the tree over them
+
+-- The leaves are a level, over which the tree is the one that is meant.
+pub leaves_level : (rows : List Row) (nodes : NodeId → Option Node) (pieces : List Piece) → IsTable rows → AreLeaves rows nodes pieces → IsLevel (top zero (leaves_of 0 rows)) [] nodes 0 pieces
+leaves_level rows nodes pieces table are = record {
+  n = zero;
+  below-is = refl;
+  children = are.leaves;
+  pieces = are.pieces-are;
+  same = ap (top zero) are.values-are;
+  orderly = subst (IsOrderly zero) (sym are.values-are) (leaves_orderly rows table);
+  owned = subst (Owns nodes) (sym (append-nil (cells_under zero are.leaves))) are.owned;
+}
+
+pub leaves_some : (rows : List Row) (nodes : NodeId → Option Node) (pieces : List Piece) → 0 < length rows → AreLeaves rows nodes pieces → 1 ≤ length pieces
+leaves_some rows nodes pieces some are =
+    let count : length pieces ≡ piece_count MOST_LEAF_ROWS (length rows) =
+    sym (ap length are.pieces-are) ∙ bare_length are.leaves ∙ sym (values_length zero are.leaves) ∙ ap length are.values-are ∙ leaves_count rows in
+    omega (arith, some, count)
+
+alone_lawful : (rows : List Row) (nodes : NodeId → Option Node) (shape : Shape) → IsTable rows → (alone : StandsAlone (top zero (leaves_of 0 rows)) [] nodes shape) → IsLawful (value_of alone.tree)
+alone_lawful rows nodes shape table alone = subst IsLawful (sym alone.value-is) (leaves_lawful (key_bound rows) rows (table_rises rows table))
+
+-- The tree over them stands alone, so that it is whole, and read.
+pub alone_whole : (rows : List Row) (nodes : NodeId → Option Node) (shape : Shape) → IsTable rows → StandsAlone (top zero (leaves_of 0 rows)) [] nodes shape → IsWhole nodes shape
+alone_whole rows nodes shape table alone = owned_whole nodes alone.tree shape (alone_lawful rows nodes shape table alone) alone.root alone.levels alone.owned
+
+pub alone_read : (rows : List Row) (places : List Place) (shape : Shape) → IsTable rows → StandsAlone (top zero (leaves_of 0 rows)) [] (map_of places) shape → tree_of places shape ≡ top zero (leaves_of 0 rows)
+alone_read rows places shape table alone =
+    tree_reads places shape (value_of alone.tree) (owned_reads (map_of places) alone.tree [] shape (alone_lawful rows (map_of places) shape table alone) alone.root alone.levels alone.owned) ∙ alone.value-is
+
+-- ---- the tree as one batch leaves it
 
 empty_tree : Tree
 empty_tree = (zero, [])

@@ -1,4 +1,4 @@
 pub mod Below
-pub mod Levels
+pub mod BuiltLeaves
 pub mod TreeValue
 pub mod Walk

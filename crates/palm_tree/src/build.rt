@@ -14,14 +14,13 @@ ghost use Rattle.palm_base.specs.Pass.{first_low, leaves_of, top, set_of, batch_
 ghost use Rattle.palm_node.specs.LeafRows.{IsLeaf};
 ghost use Rattle.palm_arena.specs.ArenaState.{NoneLent};
 ghost use Rattle.palm_arena.specs.Reads.{map_of, IsWhole};
-ghost use Rattle.palm_node.specs.InnerNode.{Rise, later_lows};
-ghost use Rattle.palm_tree.specs.Levels.{IsLevel, IsRaised};
+ghost use Rattle.palm_tree.specs.BuiltLeaves.{AreLeaves};
 ghost use Rattle.palm_tree.specs.TreeValue.{tree_in, tree_of};
 
 use crate::tree::Tree;
-use palm_arena::{Arena, Shape};
-use palm_base::{MOST_CHILDREN, MOST_LEAF_ROWS, NoMemory, Row, RowList, Steps};
-use palm_node::{Inner, Leaf, Node, Piece, PieceList, piece_size, pieces};
+use palm_arena::{Arena, Shape, raise};
+use palm_base::{MOST_LEAF_ROWS, NoMemory, Row, RowList, Steps};
+use palm_node::{Leaf, Node, Piece, PieceList, piece_size, pieces};
 use std::alloc::Global;
 use std::marker::Brand;
 use std::sync::ledger::{Blank, Ledger};
@@ -37,17 +36,7 @@ fn first_key(leaf: &Leaf) -> u64
     leaf.row(0).prefix.key()
 }
 
-// The low of the first piece, or 0 where there is none.
-fn first_piece_low(pieces: &[Piece]) -> u64
-    ensures { result ≡ first_low (λ piece. piece.low) pieces.now }
-{
-    match pieces.first() {
-        Some(piece) => piece.low,
-        None => 0,
-    }
-}
-
-// The low of the next piece of a level: the first one's is 0, and a later one has its own.
+// The low of the next leaf: the first one's is 0, and a later one has its own.
 fn next_low(made: &PieceList, own: u64) -> u64
     ensures { result ≡ (if length made.now == 0 then 0 else own) }
 {
@@ -64,7 +53,7 @@ fn add_leaves<L: Ledger>(
     requires table { IsTable rows.now }
     requires empty { arena.old.places ≡ [] }
     requires under_way { IsSome arena.old.begun }
-    ensures level { IfOk result (λ leaves. IsLevel (map_of arena.new.places) zero leaves (leaves_of 0 rows.now)) }
+    ensures level { IfOk result (λ leaves. AreLeaves rows.now (map_of arena.new.places) leaves) }
     ensures under_way { OnOk result (IsSome arena.new.begun) }
     ensures none_lent { OnOk result (NoneLent arena.new.places) }
     ensures prefixes { OnOk result (PrefixesHold rows.now) }
@@ -80,32 +69,6 @@ fn add_leaves<L: Ledger>(
         rest = later;
     }
     Ok(leaves)
-}
-
-// Puts the nodes into an arena that stand over the pieces of a level, and lists them.
-fn add_level<L: Ledger>(
-    alloc: Global,
-    level: &[Piece],
-    arena: &mut Arena,
-    steps: &mut Steps<L>,
-) -> Result<PieceList, NoMemory>
-    requires rising { Rise (later_lows level.now) }
-    requires under_way { IsSome arena.old.begun }
-    requires none_lent { NoneLent arena.old.places }
-    ensures level { IfOk result (λ made. IsRaised arena.old.places level.now arena.new.places made) }
-    ensures under_way { OnOk result (IsSome arena.new.begun) }
-    ensures none_lent { OnOk result (NoneLent arena.new.places) }
-{
-    let mut made = PieceList::new(alloc);
-    let mut rest = level;
-    for i in 0..pieces(MOST_CHILDREN, level.len()) {
-        let (part, later) = rest.split_at(piece_size(MOST_CHILDREN, level.len(), i));
-        let low = next_low(&made, first_piece_low(part));
-        let id = arena.take(Node::Inner(Inner::over(part)), steps)?;
-        made.push(Piece { low, id })?;
-        rest = later;
-    }
-    Ok(made)
 }
 
 // Puts the nodes into an arena of the tree that one batch of Sets of rows leaves of the empty tree, and gives its shape.
@@ -125,14 +88,9 @@ fn put_nodes<L: Ledger>(
     ensures none_lent { OnOk result (NoneLent arena.new.places) }
     ensures prefixes { OnOk result (PrefixesHold rows.now) }
 {
-    let mut level = add_leaves(alloc, rows, arena, steps)?;
-    let mut levels = 1;
-    while level.len() > 1 {
-        level = add_level(alloc, level.as_slice(), arena, steps)?;
-        levels += 1;
-    }
-    let root = level.get(0).id;
-    Ok(Shape { root, levels })
+    let leaves = add_leaves(alloc, rows, arena, steps)?;
+    let shape = raise(alloc, leaves, 0, arena, steps)?;
+    Ok(shape)
 }
 
 // An arena of the tree that one batch of Sets of rows leaves of the empty tree, made with a counter of its own.

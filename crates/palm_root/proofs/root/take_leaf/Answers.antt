@@ -3,7 +3,7 @@ use Rattle.palm_base.specs.declared.row.Row.{Row}
 use Rattle.palm_node.specs.declared.node.Node.TheVariants.{Leaf}
 use Rattle.palm_arena.specs.Cells.{Turns}
 use Rattle.palm_arena.specs.Reads.{map_of}
-use Rattle.palm_root.proofs.TakenLevels.{taken_turns, taken_home}
+use Rattle.palm_arena.proofs.TakenLevels.{taken_turns, taken_home}
 use Rattle.palm_root.proofs.root.take_leaf.Goals as goal
 
 pub returns-clause-taken : goal.returns-clause-taken

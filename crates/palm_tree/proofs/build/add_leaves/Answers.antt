@@ -1,9 +1,9 @@
-use Rattle.std.proofs.Common.{◌≡◌, take, length}
+use Rattle.std.proofs.Common.{◌≡◌, ◌≤◌, take, length, subst}
 use Rattle.palm_base.specs.Table.{row_key}
 use Rattle.palm_base.specs.Cut.{piece_count}
 use Rattle.palm_base.specs.Pass.{first_low}
 use Rattle.palm_base.specs.declared.bounds.TheConstants.{MOST_LEAF_ROWS}
-use Rattle.palm_tree.proofs.AddedLeaves.{leaves_first, leaves_next, leaf_table}
+use Rattle.palm_tree.proofs.AddedLeaves.{leaves_first, leaves_next, leaves_all, leaf_table}
 use Rattle.palm_base.proofs.CutSteps.{some_left, own_low}
 use Rattle.palm_tree.proofs.build.add_leaves.Goals as goal
 
@@ -27,3 +27,7 @@ loop-i-preserved g c =
       far = rw (c.split_at.ensures.back, c.in_ok-id.ensures.ok, c.in_ok-push.ensures.ok) next;
       under_way = rw c.in_ok-id.ensures.ok c.loop-i.invariant.under_way;
     }
+
+pub returns-clause-level : goal.returns-clause-level
+returns-clause-level g c =
+    leaves_all c.args.rows.now c.loop-i.i c.loop-i.arena.places c.loop-i.rest.now c.loop-i.leaves c.loop-i.invariant.far (subst (λ n. n ≤ c.loop-i.i) c.pieces-i-end.ensures c.loop-i-test.false)

@@ -3,9 +3,9 @@ use Rattle.palm_base.specs.Tree.{Tree}
 use Rattle.palm_arena.specs.ArenaState.{NoneLent}
 use Rattle.palm_arena.specs.Cells.{Cell}
 use Rattle.palm_arena.specs.Reads.{map_of}
-use Rattle.palm_root.specs.Raising.{IsLevel}
-use Rattle.palm_root.proofs.Raised.{TicksSoFar}
-use Rattle.palm_root.proofs.raising.raise.Given as goal
+use Rattle.palm_arena.specs.Levels.{IsLevel}
+use Rattle.palm_arena.proofs.Raised.{TicksSoFar}
+use Rattle.palm_arena.proofs.levels.raise.Given as goal
 
 -- the level is one over the lowest, and there are few of them
 abbrev pub invariant-loop-alloc : goal.invariant-loop-alloc

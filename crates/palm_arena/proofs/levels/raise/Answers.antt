@@ -1,9 +1,9 @@
 use Rattle.std.proofs.Common.{◌≡◌, ◌+◌, ◌-◌, ◌≤◌, ap, is_some, sym, subst, arith, refl, ◌∙◌, length}
 use Rattle.palm_arena.specs.Reads.{map_of}
 use Rattle.palm_arena.specs.declared.shape.Shape.{Shape}
-use Rattle.palm_root.specs.Raising.{IsTaken, IsLevel}
-use Rattle.palm_root.proofs.Raised.{level_next, level_rises, level_last, made_count, ticks_first, ticks_next, ticks_last, ticks_refused, few_first, few_next, levels_fit, made_some, made_fewer}
-use Rattle.palm_root.proofs.raising.raise.Goals as goal
+use Rattle.palm_arena.specs.Levels.{IsTaken, IsLevel}
+use Rattle.palm_arena.proofs.Raised.{level_next, level_rises, level_last, made_count, ticks_first, ticks_next, ticks_last, ticks_refused, few_first, few_next, levels_fit, made_some, made_fewer}
+use Rattle.palm_arena.proofs.levels.raise.Goals as goal
 
 pub loop-alloc-init : goal.loop-alloc-init
 loop-alloc-init g c = record {

@@ -23,7 +23,7 @@ use Rattle.palm_arena.proofs.Turning.{put_turns, vacant_none}
 use Rattle.palm_arena.proofs.Standing.{none_lent_after_put}
 use Rattle.palm_arena.specs.Routes.{separators_of}
 use Rattle.palm_arena.proofs.Natural.{take-map, drop-map, length-map'}
-use Rattle.palm_root.specs.Raising.{pair_of, nodes_of, pieces_of, cells_at, IsTaken}
+use Rattle.palm_arena.specs.Levels.{pair_of, nodes_of, pieces_of, cells_at, IsTaken}
 
 -- The nodes over the pieces before the i-th are put, and the rest of the level is left.
 pub record TakenSoFar (level : List Piece) (old : NodeId → Option Node) (i : ℕ) (new : NodeId → Option Node) (rest made : List Piece) : Type 0 where

@@ -27,7 +27,7 @@ use Rattle.palm_arena.specs.Passes.{StandsAlone}
 use Rattle.palm_arena.proofs.CellLists.{owned_same, same_append}
 use Rattle.palm_arena.proofs.Natural.{inside, drop-map, length-map'}
 use Rattle.palm_arena.proofs.NamedNodes.{ids_values, nodes-inside, nodes_values, nodes_cells}
-use Rattle.palm_root.specs.Raising.{pair_of, nodes_of, pieces_of, cells_at, IsTaken, IsLevel, HasRaised}
+use Rattle.palm_arena.specs.Levels.{pair_of, nodes_of, pieces_of, cells_at, IsTaken, IsLevel, HasRaised}
 
 -- ---- nodes by ids, and by all that is under them
 

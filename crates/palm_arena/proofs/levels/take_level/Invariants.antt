@@ -1,8 +1,8 @@
 use Rattle.std.proofs.Common.{◌≡◌, ◌+◌, ◌≤◌, length}
 use Rattle.palm_arena.specs.Reads.{map_of}
-use Rattle.palm_root.proofs.TakenLevels.{TakenSoFar}
+use Rattle.palm_arena.proofs.TakenLevels.{TakenSoFar}
 use Rattle.palm_arena.specs.ArenaState.{NoneLent}
-use Rattle.palm_root.proofs.raising.take_level.Given as goal
+use Rattle.palm_arena.proofs.levels.take_level.Given as goal
 
 -- the nodes over the pieces so far are put
 abbrev pub invariant-loop-i : goal.invariant-loop-i

@@ -7,8 +7,8 @@ use Rattle.palm_base.proofs.CutSteps.{some_left}
 use Rattle.palm_node.specs.declared.node.Node.TheVariants.{Inner}
 use Rattle.palm_arena.specs.ArenaState.{ArenaState}
 use Rattle.palm_arena.specs.Cells.{Turns}
-use Rattle.palm_root.proofs.TakenLevels.{taken_first, level_parts, taken_next, taken_all, taken_turns, taken_home, length-more}
-use Rattle.palm_root.proofs.raising.take_level.Goals as goal
+use Rattle.palm_arena.proofs.TakenLevels.{taken_first, level_parts, taken_next, taken_all, taken_turns, taken_home, length-more}
+use Rattle.palm_arena.proofs.levels.take_level.Goals as goal
 
 pub loop-i-init : goal.loop-i-init
 loop-i-init g c = record {
