@@ -12,11 +12,11 @@ use Rattle.palm_node.specs.declared.node.Node.{Node}
 use Rattle.palm_arena.specs.Leaves.{LeafPlace, leaves_of_children, leaves_under}
 use Rattle.palm_arena.specs.Reads.{reads}
 use Rattle.palm_arena.specs.Routes.{route_of}
-use Rattle.palm_arena.proofs.RouteSteps.{route_past}
+use Rattle.palm_arena.proofs.RouteSteps.{route_past, route_none}
 use Rattle.palm_route.specs.Parts.{lows_of, is_later}
 use Rattle.palm_route.specs.Ranges.{HasRange}
 use Rattle.palm_route.proofs.Ascents.{Ascends, each_within}
-use Rattle.palm_route.proofs.LeavesUnder.{AreRead, sound_range, all_ascend, children_ascend, route_none}
+use Rattle.palm_route.proofs.LeavesUnder.{AreRead, sound_range, all_ascend, children_ascend}
 
 -- Of these leaves, the lows that are later.
 abbrev pub later_lows : ℕ → ℕ → List LeafPlace → List ℕ
@@ -75,7 +75,7 @@ module _ (nodes : NodeId → Option Node) (n : ℕ) (path : List (NodeId × ℕ)
           → later_at (suc p) (next.0 ∷ map (λ c. c.0) children) ids ≡ later_at q' (drop j' (next.0 ∷ map (λ c. c.0) children)) (drop j' ids))
           → later_at p (low ∷ next.0 ∷ map (λ c. c.0) children) (own ∷ ids) ≡ later_at q (drop j (low ∷ next.0 ∷ map (λ c. c.0) children)) (drop j (own ∷ ids))
       by (inl less) rest =
-          let none : j ≡ 0 = at ∙ route_none n from next.0 high children less next refl order.1 in
+          let none : j ≡ 0 = at ∙ route_none n from high next children less order.1 in
           let same : q ≡ p = omega (arith, is, none) in
           rw (none, same) refl
       by (inr least) rest =

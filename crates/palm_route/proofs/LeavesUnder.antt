@@ -14,7 +14,7 @@ use Rattle.palm_arena.specs.Leaves.{leaf_for, leaves_of_node, leaves_of_children
 use Rattle.palm_arena.specs.Reads.{inner_in, reads}
 use Rattle.palm_arena.specs.Routes.{route_of}
 use Rattle.palm_arena.proofs.Readings.{inner_reads}
-use Rattle.palm_arena.proofs.RouteSteps.{route_past, route_before}
+use Rattle.palm_arena.proofs.RouteSteps.{route_past, route_none}
 use Rattle.palm_route.specs.Ranges.{IsRange, HasRange}
 use Rattle.palm_route.proofs.Ascents.{Ascends, join, goes_left, goes_right}
 
@@ -101,12 +101,6 @@ all_ascend nodes (suc n) path low high id node e range =
 
 -- ---- one step down
 
-pub route_none : (n k low high : ℕ) (children : List (ℕ × Subtree n)) → k < low → (child : ℕ × Subtree n) → child.0 ≡ low → InOrder n low high (child ∷ children)
-    → route_of k (map (λ c. c.0) (child ∷ children)) ≡ 0
-route_none n k low high [] less child same order = route_before k child.0 [] (omega arith)
-route_none n k low high (next ∷ children) less child same order =
-    route_before k child.0 (map (λ c. c.0) (next ∷ children)) (omega arith) ∙ route_none n k next.0 high children (omega (arith, order.0.0)) next refl order.1
-
 -- The child at this place: a node with a range stands there, and the key's leaf is under it.
 pub record Turns (nodes : NodeId → Option Node) (n k : ℕ) (path : List (NodeId × ℕ)) (id : NodeId) (i : ℕ) (lows : List ℕ) (ids : List NodeId) (j : ℕ) : Type 0 where
   pub range : (d : NodeId) → HasRange nodes n (get_or lows j 0) (get_or ids j d)
@@ -134,7 +128,7 @@ turns nodes n k path id i low high (own ∷ ids) child (next ∷ children) read 
     by : Turns nodes n k path id (suc i) (next.0 ∷ map (λ c. c.0) children) ids (route_of k (map (λ c. c.0) children)) → (k < next.0) ⊎ (next.0 ≤ k)
         → Turns nodes n k path id i (low ∷ next.0 ∷ map (λ c. c.0) children) (own ∷ ids) (route_of k (next.0 ∷ map (λ c. c.0) children))
     by rest (inl less) =
-        let none : route_of k (next.0 ∷ map (λ c. c.0) children) ≡ 0 = route_none n k next.0 high children less next refl order.1 in
+        let none : route_of k (next.0 ∷ map (λ c. c.0) children) ≡ 0 = route_none n k high next children less order.1 in
         rw none (record {
           range = λ d. record { node = child.1; reads-as = read.0; high = next.0; range = sound_range n low next.0 child.1 order.0.0 order.0.1 };
           same = λ d p e. let at : p ≡ i = omega (arith, e) in rw at (goes_left k low next.0 high _ _ left right less);

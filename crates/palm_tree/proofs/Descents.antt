@@ -1,5 +1,5 @@
 -- A look-up goes down one way: a key's row stands under the child to whose left as many separators are at most the key.
-use Rattle.std.proofs.Common.{◌≡◌, ℕ, suc, ◌<◌, ◌≤◌, Bool, true, false, cond, eqb, List, [], ◌∷◌, ◌++◌, length, get_or, map, take, drop, Some, None, refl, ap, arith, ◌∙◌, ◌⊎◌, inl, inr}
+use Rattle.std.proofs.Common.{◌≡◌, ℕ, suc, ◌<◌, ◌≤◌, Bool, true, false, cond, eqb, List, [], ◌∷◌, ◌++◌, length, get_or, take, drop, Some, None, refl, ap, arith, ◌∙◌, ◌⊎◌, inl, inr}
 use Rattle.std.proofs.lemmas.Bool.{cases_lt, ne_eqb}
 use Rattle.std.proofs.lemmas.List.{append-nil}
 use Rattle.palm_base.specs.Table.{row_key, rate_at}
@@ -11,7 +11,7 @@ use Rattle.palm_base.proofs.SoundNodes.{sound_rises, in_order_rises}
 use Rattle.palm_base.proofs.TableSplits.{Under, From}
 use Rattle.palm_base.specs.declared.row.Row.{Row}
 use Rattle.palm_arena.specs.Routes.{separators_of, route_of}
-use Rattle.palm_arena.proofs.RouteSteps.{route_past, route_before}
+use Rattle.palm_arena.proofs.RouteSteps.{route_past, route_none}
 
 -- ---- the rate of a key among rows on two sides
 
@@ -34,13 +34,6 @@ rate_left k low (row ∷ left) right less from = by (eqb (row_key row) k) (rate_
     by false rest = rest
 
 -- ---- routes
-
--- No child of some in order begins at or below a key that is below them all.
-route-none : (n k first high : ℕ) (child : ℕ × Subtree n) (children : List (ℕ × Subtree n)) → k < child.0 → InOrder n child.0 high (child ∷ children)
-    → route_of k (map (λ c. c.0) (child ∷ children)) ≡ 0
-route-none n k first high child [] less order = route_before k child.0 [] less
-route-none n k first high child (next ∷ children) less order =
-    route_before k child.0 (map (λ c. c.0) (next ∷ children)) less ∙ route-none n k first high next children (omega (arith, order.0.0)) order.1
 
 under_more : (k low : ℕ) (rows : List Row) → low ≤ k → Under low rows → Under k rows
 under_more k low [] least under = tt
@@ -83,7 +76,7 @@ leads n k first high child (next ∷ children) order = by (leads n k next.0 high
         let later = in_order_rises n next.0 high (next ∷ children) order.1 in
         let from : From next.0 (rows_under n (next ∷ children)) = from_range next.0 high _ (rising_range next.0 high _ later) in
         let own : InOrder n next.0 high (next ∷ children) = order.1 in
-        let none : route_of k (separators_of (child ∷ next ∷ children)) ≡ 0 = route-none n k first high next children less own in
+        let none : route_of k (separators_of (child ∷ next ∷ children)) ≡ 0 = route_none n k high next children less own in
         rw none (record {
           inside = omega arith;
           before = tt;
