@@ -13,6 +13,7 @@ use Rattle.palm_node.specs.declared.id.Piece.{Piece}
 use Rattle.palm_node.specs.declared.node.Node.{Node}
 use Rattle.palm_node.specs.declared.node.Node.TheVariants.{Inner}
 use Rattle.palm_node.specs.declared.change.Change.{Change}
+use Rattle.palm_node.proofs.SameNodes.{inner_same}
 use Rattle.palm_node.specs.declared.change.Changes.{Changes}
 use Rattle.palm_arena.specs.declared.shape.Shape.{Shape}
 use Rattle.palm_arena.specs.Placed.{Placed, PlacedTree, value_in, value_of, values, bare}
@@ -125,9 +126,6 @@ is_family p nodes changes at = at.stands.sites ∙ append-nil (sites_below at.n 
 pub root_held : (p : Pass) (nodes : NodeId → Option Node) (shape : Shape) (changes : Changes) (s : StandsBelow p nodes shape changes) → (more : 1 < shape.levels) → nodes shape.root ≡ Some (Inner (inner_of (more_levels p nodes shape changes s more).root.place.1))
 root_held p nodes shape changes s more = ap nodes s.root ∙ inner_held p nodes changes (more_levels p nodes shape changes s more)
 
-same_inner : (a b : InnerNode) → ◌≡◌ {A = Option Node} (Some (Inner a)) (Some (Inner b)) → a ≡ b
-same_inner a b e = cc
-
 paths_some : (touched : NodeId → Bool) (l : ℕ) (path : List (NodeId × ℕ)) (id : NodeId) (i : ℕ) (results : List (Result l)) → StepsFrom path id i (map (λ r. r.site) results) → AllByRecursion (λ (c : Change). 0 < length c.path) (changes_in touched l results)
 paths_some touched l path id i [] steps = tt
 paths_some touched l path id i (r ∷ rs) steps = by (is_hit touched l r) (paths_some touched l path id (suc i) rs steps.1)
@@ -151,7 +149,7 @@ pub root_places : (p : Pass) (nodes : NodeId → Option Node) (shape : Shape) (c
 unfolding root_family
 root_places p nodes shape changes inner s more read =
     let at = more_levels p nodes shape changes s more in
-    let same = same_inner (inner_of at.root.place.1) inner (sym (root_held p nodes shape changes s more) ∙ read) in
+    let same = inner_same (inner_of at.root.place.1) inner (nodes shape.root) (root_held p nodes shape changes s more) read in
     let count : length (inner_of at.root.place.1).children ≡ length at.root.place.1 = length-map' (λ (child : ℕ × Placed at.n). child.1.0) at.root.place.1 in
     subst (λ cs. PlacesRise 0 (length inner.children) cs) (sym at.stands.changed)
     (subst (λ (i : InnerNode). PlacesRise 0 (length i.children) (changes_in (is_among p.routed) at.n at.stands.results)) same
@@ -169,7 +167,7 @@ inner_found p nodes shape changes inner left s more read is = by left is
     touched = is_among p.routed
 
     same : inner ≡ inner_of at.root.place.1
-    same = sym (same_inner (inner_of at.root.place.1) inner (sym (root_held p nodes shape changes s more) ∙ read))
+    same = inner_same inner (inner_of at.root.place.1) (nodes shape.root) read (root_held p nodes shape changes s more)
 
     has : HasLeft p ((p.tree.1.0, Inner (inner_of at.root.place.1)) ∷ []) nodes changes at.n (bare (pieces_under at.n at.stands.results))
     has = inner_left p nodes changes at s.stands.is-pass
@@ -227,7 +225,7 @@ inner_few p nodes shape changes inner left n s more read is within = by left is
     touched = is_among p.routed
 
     same : inner ≡ inner_of at.root.place.1
-    same = sym (same_inner (inner_of at.root.place.1) inner (sym (root_held p nodes shape changes s more) ∙ read))
+    same = inner_same inner (inner_of at.root.place.1) (nodes shape.root) read (root_held p nodes shape changes s more)
 
     lawful : (high : ℕ) × Root (suc at.n) high (values at.n at.root.place.1)
     lawful = subst (λ (t : PlacedTree). (high : ℕ) × Root t.0 high (value_in t.0 t.1.1)) (sym at.tree-is) s.stands.is-pass.lawful

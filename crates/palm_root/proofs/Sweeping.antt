@@ -18,6 +18,7 @@ use Rattle.palm_node.specs.InnerNode.{InnerNode}
 use Rattle.palm_node.specs.declared.id.NodeId.{NodeId}
 use Rattle.palm_node.specs.declared.node.Node.{Node}
 use Rattle.palm_node.specs.declared.node.Node.TheVariants.{Leaf, Inner}
+use Rattle.palm_node.proofs.SameNodes.{inner_same}
 use Rattle.palm_arena.specs.ArenaState.{ArenaState, with_place, NoneLent}
 use Rattle.palm_arena.specs.declared.place.Place.TheVariants.{Empty}
 use Rattle.palm_arena.specs.Cells.{Cell, Owns, Turns}
@@ -64,11 +65,8 @@ leaf_is (suc n) body rows e = absurd cc
 -- An inner node has something below it, and its children are the node's.
 inner_is : (n : ℕ) (body : Body n) (inner : InnerNode) → ◌≡◌ {A = Option Node} (Some (Inner inner)) (Some (node_of n body)) → (0 < n) × (inner.children ≡ map (λ child. child.place.0) (children_in n body))
 inner_is zero body inner e = absurd cc
-inner_is (suc n) body inner e = (omega arith, ap (λ (i : InnerNode). i.children) (same inner (record { children = ids_of_children body; separators = separators_of body }) e) ∙ named body)
+inner_is (suc n) body inner e = (omega arith, ap (λ (i : InnerNode). i.children) (inner_same inner (record { children = ids_of_children body; separators = separators_of body }) (Some (Inner inner)) refl e) ∙ named body)
   where
-    same : (a b : InnerNode) → ◌≡◌ {A = Option Node} (Some (Inner a)) (Some (Inner b)) → a ≡ b
-    same a b e = cc
-
     named : (body : List (ℕ × Placed n)) → ids_of_children body ≡ map (λ (child : Kept). child.place.0) (map {B = Kept} (λ child. record { below = n; place = child.1 }) body)
     named [] = refl
     named (child ∷ children) = ap (λ ids. child.1.0 ∷ ids) (named children)
