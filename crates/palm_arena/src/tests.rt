@@ -124,6 +124,24 @@ fn change<L: Ledger>(
     Ok(third)
 }
 
+// A batch of its own that takes the leaf of 4 at 40, at the one id that is free.
+fn take_fourth<L: Ledger>(
+    rt: &impl Abort,
+    arena: &mut Arena,
+    free: NodeId,
+    steps: &mut Steps<L>,
+) -> Result<(), NoMemory>
+    requires idle { arena.old.begun ≡ None }
+    requires none_lent { NoneLent arena.old.places }
+{
+    arena.begin();
+    let fourth = add(arena, leaf(rt, "4", 40), steps)?;
+    arena.commit();
+    assert!(rt; fourth == free, "used again");
+    assert_leaf(rt, arena, fourth, "4", 40);
+    Ok(())
+}
+
 fn roll_back<L: Ledger>(rt: &impl Abort, alloc: Global, blank: Blank) -> Result<(), NoMemory>
     requires blank_name { blank.name ≡ L.name }
     requires blank_parts { blank.parts ≡ L.parts }
@@ -154,13 +172,9 @@ fn keep<L: Ledger>(rt: &impl Abort, alloc: Global, blank: Blank) -> Result<(), N
     assert!(rt; !arena.is_held(second), "dropped");
     assert_leaf(rt, &arena, third, "3", 30);
     // the id that the last batch dropped is used again
-    arena.begin();
-    let fourth = add(&mut arena, leaf(rt, "4", 40), &mut steps)?;
-    arena.commit();
-    assert!(rt; fourth == second, "used again");
+    take_fourth(rt, &mut arena, second, &mut steps)?;
     assert_leaf(rt, &arena, first, "1", 11);
     assert_leaf(rt, &arena, third, "3", 30);
-    assert_leaf(rt, &arena, fourth, "4", 40);
     Ok(())
 }
 
@@ -175,13 +189,9 @@ fn use_again<L: Ledger>(rt: &impl Abort, alloc: Global, blank: Blank) -> Result<
     let third = change(rt, &mut arena, first, second, &mut steps)?;
     arena.rollback();
     // the id that the batch took back is not live, and the next batch takes its place again, at the end
-    arena.begin();
-    let fourth = add(&mut arena, leaf(rt, "4", 40), &mut steps)?;
-    assert!(rt; fourth == third, "at the end again");
-    arena.commit();
+    take_fourth(rt, &mut arena, third, &mut steps)?;
     assert_leaf(rt, &arena, first, "1", 10);
     assert_leaf(rt, &arena, second, "2", 20);
-    assert_leaf(rt, &arena, fourth, "4", 40);
     Ok(())
 }
 
