@@ -1,8 +1,12 @@
 use Rattle.std.proofs.Common.{Err, ap}
 use Rattle.palm_tree.specs.TreeValue.{tree_in}
-use Rattle.palm_cli.proofs.DeckEnds.{deck_ends, deck_stops}
+use Rattle.palm_cli.proofs.DeckEnds.{no_deck_ends, deck_ends, deck_stops}
 use Rattle.palm_base.proofs.EmptyTree.{empty_is_lawful}
 use Rattle.palm_cli.proofs.deck.deck.Goals as goal
+
+pub returns-in-Err-clause-end : goal.returns-in-Err-clause-end
+returns-in-Err-clause-end g c =
+    no_deck_ends c.args.settings.now _ _ _ _ _ _ _ c.in-Err.status (tree_in c.args.engine.now.tree) c.in-Err.ensures.err
 
 pub returns-in-Err-clause-lawful : goal.returns-in-Err-clause-lawful
 returns-in-Err-clause-lawful g c = empty_is_lawful (tree_in c.args.engine.now.tree) c.requires.new
