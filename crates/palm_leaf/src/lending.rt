@@ -113,6 +113,7 @@ pub fn give_leaves_back<'a>(
     ensures begun { arena.new.begun ≡ arena.old.begun }
     ensures moved { arena.new.moved ≡ arena.old.moved }
 {
+    // A `for` would drop what it leaves, and a lease can't be dropped. So the works are taken one by one.
     let mut left = works.into_iter();
     while let Some(item) = left.next() {
         if let Some(work) = item {

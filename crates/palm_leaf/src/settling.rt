@@ -190,8 +190,8 @@ fn part_count(done: &[LeafDone<'_>]) -> usize {
     count
 }
 
-/// Settles all leaves in their order. It counts a step for each later leaf. `NoMemory` where
-/// memory was refused: what was done so far stays, so the batch has to be rolled back.
+/// Settles all leaves in their order. It counts a step for each later leaf. `NoMemory` where memory was refused: what was done
+/// so far stays, so the batch has to be rolled back.
 pub fn settle_leaves<L: Ledger>(
     alloc: Global,
     arena: &mut Arena,
