@@ -1,6 +1,7 @@
 // The mode `deck`: worked decks, their faults, and the faults of streams.
 use crate::tests::{ends_as, run, sink, words};
 use palm_script::{MOST_BYTES, MemSource, SureSource};
+use std::alloc::Global;
 use std::test::Fail;
 
 const SMALL: &str =
@@ -20,28 +21,38 @@ fn decks_leave_their_tables(rt: HostRuntime) -> Result<(), Fail> {
             "op,prefix,rate\nset,044,0\nset,0441,3\nset,5,7\n",
         ),
     ] {
-        for batch in ["--batch=1", "--batch=4096"] {
-            ends_as(&rt, alloc, &["deck", batch], deck, 0, left, "")?;
-        }
+        ends_as(&rt, alloc, &["deck", "--batch=1"], deck, 0, left, "")?;
+        ends_as(&rt, alloc, &["deck"], deck, 0, left, "")?;
     }
     Ok(())
 }
 
-// The rows fall from 1,004,999 to 1,000,000, quoted and with CR LF, as a spreadsheet may write them.
+// A deck of 5,000 rows from 1,004,999 down to 1,000,000, quoted and with CR LF, as a spreadsheet may write them.
+fn falling_deck(alloc: Global) -> Result<String, Fail> {
+    let mut deck = String::from_str(alloc, "op,prefix,rate\r\n")?;
+    for rate in (0..5_000u32).rev() {
+        let prefix = 1_000_000 + rate;
+        deck.push_str(&format!(in alloc; "\"set\",\"{prefix}\",\"{rate}\"\r\n")?)?;
+    }
+    Ok(deck)
+}
+
+// The deck of a table that has the rows from 1,000,002 to 1,004,999 of these behind others.
+fn deck_with(alloc: Global, others: &str) -> Result<String, Fail> {
+    let mut deck = format!(in alloc; "op,prefix,rate\n{others}")?;
+    for rate in 2..5_000u32 {
+        let prefix = 1_000_000 + rate;
+        deck.push_str(&format!(in alloc; "set,{prefix},{rate}\n")?)?;
+    }
+    Ok(deck)
+}
+
 #[test]
 fn a_deck_as_a_carrier_has_it(rt: HostRuntime) -> Result<(), Fail> {
     let alloc = rt.alloc();
-    let mut deck = String::from_str(alloc, "op,prefix,rate\r\n")?;
-    for i in (0..5_000u32).rev() {
-        let q = 1_000_000 + i;
-        deck.push_str(&format!(in alloc; "\"set\",\"{q}\",\"{i}\"\r\n")?)?;
-    }
+    let mut deck = falling_deck(alloc)?;
     deck.push_str("set,1000000,1\r\ndel,1000001,\r\n")?;
-    let mut left = String::from_str(alloc, "op,prefix,rate\nset,1000000,1\n")?;
-    for i in 2..5_000u32 {
-        let q = 1_000_000 + i;
-        left.push_str(&format!(in alloc; "set,{q},{i}\n")?)?;
-    }
+    let left = deck_with(alloc, "set,1000000,1\n")?;
     ends_as(&rt, alloc, &["deck", "--workers", "8"], &deck, 0, &left, "")
 }
 

@@ -2,7 +2,6 @@
 ghost use Rattle.std.specs.Prelude.{◌≡◌, ◌+◌, ◌-◌, ◌<◌, ◌≤◌, ◌∷◌, length, take, drop, map, true, false, IfOk, Some, MatchOption};
 ghost use Rattle.std.specs.List.{AllByRecursion};
 ghost use Rattle.palm_node.specs.InnerNode.{IsInner};
-ghost use Rattle.palm_node.specs.declared.node.Node.TheVariants as node;
 ghost use Rattle.palm_arena.specs.Reads.{map_of};
 ghost use Rattle.palm_level.specs.Splices.{last_step, path_above, children_left, PlacesRise};
 ghost use Rattle.palm_level.specs.Runs.{runs};
