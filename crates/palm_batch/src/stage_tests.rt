@@ -1,12 +1,17 @@
 // The stages of a batch on trees, with workers of all numbers.
-ghost use Rattle.std.specs.Prelude.{◌≡◌, ◌<◌, ◌≤◌, length};
+ghost use Rattle.std.specs.Prelude.{◌≡◌, ◌<◌, ◌≤◌, length, IsSome};
 ghost use Rattle.palm_base.specs.Table.{IsTable};
 ghost use Rattle.palm_share.specs.declared.share.TheConstants.{MOST_WORKERS};
+ghost use Rattle.palm_arena.specs.ArenaState.{NoneLent};
+ghost use Rattle.palm_arena.specs.Reads.{map_of};
+ghost use Rattle.palm_tree.specs.TreeValue.{tree_in};
 ghost use Rattle.palm_batch.specs.declared.batch.TheConstants.{MOST_CALLS};
+ghost use Rattle.palm_batch.specs.Passing.{IsTree};
 
 use crate::batch::run_batch;
 use crate::calls::{amount, del, digits, entries, get, list, set};
 use crate::pass::{Passed, change_levels, route, run_pass};
+use palm_arena::{Arena, Shape};
 use palm_base::{Call, Entry, NoMemory, Row, RowList, Steps};
 use palm_leaf::{LeafAnswer, LeafOutcome, change_leaves};
 use palm_node::Changes;
@@ -64,6 +69,21 @@ fn touched<R: Threads + Sync>(
     )
 }
 
+// The arena of a tree, in which a batch has begun, and the tree's shape.
+fn begun(tree: Tree) -> (Arena, Shape)
+    ensures under_way { IsSome result.0.begun }
+    ensures none_lent { NoneLent result.0.places }
+    ensures tree { IsTree (tree_in tree) (map_of result.0.places) result.1 }
+{
+    let Tree {
+        mut arena,
+        shape,
+        ..
+    } = tree;
+    arena.begin();
+    (arena, shape)
+}
+
 // What the leaves of a tree answer a batch, and the changes below its root. The gate is that of the levels.
 fn staged<R: Threads + Sync, G: Gate + Sync, L: Ledger>(
     rt: &R,
@@ -81,12 +101,7 @@ fn staged<R: Threads + Sync, G: Gate + Sync, L: Ledger>(
     requires few { workers ≤ MOST_WORKERS }
 {
     let mut steps = Steps::<L>::new(blank);
-    let Tree {
-        mut arena,
-        shape,
-        ..
-    } = tree;
-    arena.begin();
+    let (mut arena, shape) = begun(tree);
     let groups = route(rt, alloc, &arena, shape, batch, workers, &OpenGate)?;
     let LeafOutcome { answers, changes } = change_leaves(
         rt, alloc, &mut arena, shape, groups, workers, &OpenGate, &mut steps,
@@ -164,12 +179,7 @@ fn passed<R: Threads + Sync, L: Ledger>(
     requires few { workers ≤ MOST_WORKERS }
 {
     let mut steps = Steps::<L>::new(blank);
-    let Tree {
-        mut arena,
-        shape,
-        ..
-    } = tree;
-    arena.begin();
+    let (mut arena, shape) = begun(tree);
     run_pass(
         rt, alloc, &mut arena, shape, batch, workers, &OpenGate, &mut steps,
     )
@@ -254,16 +264,21 @@ fn piece_counts(alloc: Global, changes: &Changes) -> Result<Vec<usize>, NoMemory
     Ok(counts)
 }
 
+// The Sets of the prefixes of these numbers, each at itself as its rate.
+fn sets_of(rt: &impl Abort, alloc: Global, from: u64, to: u64) -> Result<Vec<Call>, Fail> {
+    let mut calls = Vec::new(alloc);
+    for number in from..=to {
+        let text = format!(in alloc; "{number}")?;
+        calls.push(set(rt, text.as_str(), number))?;
+    }
+    Ok(calls)
+}
+
 // The prefixes 100 to 124 begin with 10, 11 and 12, so that they go to the first leaf of the tree of 10 to 26.
 #[test]
 fn a_leaf_of_34_rows_becomes_three(rt: HostRuntime) -> Result<(), Fail> {
     let alloc = rt.alloc();
-    let mut calls = Vec::new(alloc);
-    for number in 100..125 {
-        let text = format!(in alloc; "{number}")?;
-        calls.push(set(&rt, text.as_str(), number))?;
-    }
-    let batch = entries(alloc, &calls)?;
+    let batch = entries(alloc, &sets_of(&rt, alloc, 100, 124)?)?;
     for workers in [1, 3, MOST_WORKERS] {
         let tree = built(&rt, alloc, 10, 26)?;
         let outcome = outcome_of(&rt, alloc, tree, &batch, workers, &OpenGate)?;
@@ -433,16 +448,22 @@ fn assert_left<R: Threads + Sync + Abort>(
     Ok(())
 }
 
+// The Dels of the prefixes of these numbers.
+fn dels_of(rt: &impl Abort, alloc: Global, from: u64, to: u64) -> Result<Vec<Call>, Fail> {
+    let mut calls = Vec::new(alloc);
+    for number in from..=to {
+        let text = format!(in alloc; "{number}")?;
+        calls.push(del(rt, text.as_str()))?;
+    }
+    Ok(calls)
+}
+
 // The tree of 10 to 26 has leaves of 9 and 8 rows, and that of 10 to 25 is one full leaf. That of 100 to 355 has 16 full
 // leaves, and that of 100 to 499 has 25 under nodes of 13 and 12, of which the Dels empty five under the second.
 #[test]
 fn a_pass_ends_in_a_root_and_gathers_orphans(rt: HostRuntime) -> Result<(), Fail> {
     let alloc = rt.alloc();
-    let mut dels = Vec::new(alloc);
-    for number in 308..=387 {
-        let text = format!(in alloc; "{number}")?;
-        dels.push(del(&rt, text.as_str()))?;
-    }
+    let dels = dels_of(&rt, alloc, 308, 387)?;
     let gets = [get(&rt, "10"), get(&rt, "26")];
     let three = [del(&rt, "10"), del(&rt, "11"), del(&rt, "26")];
     let cases: [((u64, u64), &[Call], (usize, Option<u64>, u32)); 6] = [
