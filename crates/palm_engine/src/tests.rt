@@ -85,35 +85,13 @@ fn run_all<R: Threads + Sync + Abort, L: Ledger>(
     Ok(())
 }
 
-// Runs a history to its end. Each of its parts begins a batch of its own.
-fn run_history<R: Threads + Sync + Abort, L: Ledger>(
-    rt: &R,
-    alloc: Global,
-    engine: &mut Engine,
-    history: &[Edits],
-    max: u32,
-    workers: u32,
-    steps: &mut Steps<L>,
-) -> Result<(), NoMemory>
-    requires least { 1 ≤ max }
-    requires most { max ≤ MOST_CALLS }
-    requires some { 1 ≤ workers }
-    requires few { workers ≤ MOST_WORKERS }
-{
-    for edits in history {
-        let roll = roll_of(rt, alloc, *edits)?;
-        run_all(rt, engine, &roll, max, workers, steps)?;
-    }
-    Ok(())
-}
-
 fn shape_of(alloc: Global, engine: &Engine) -> Result<Vec<u8>, NoMemory> {
     let mut text = Vec::new(alloc);
     engine.tree.dump(&mut text)?;
     Ok(text)
 }
 
-// The shape that a history leaves of an empty table.
+// The engine that a history leaves of an empty table. Each part of the history begins a batch of its own.
 fn left_with<R: Threads + Sync + Abort, L: Ledger>(
     rt: &R,
     alloc: Global,
@@ -121,7 +99,7 @@ fn left_with<R: Threads + Sync + Abort, L: Ledger>(
     max: u32,
     workers: u32,
     blank: Blank,
-) -> Result<Vec<u8>, NoMemory>
+) -> Result<Engine, NoMemory>
     requires blank_name { blank.name ≡ L.name }
     requires blank_parts { blank.parts ≡ L.parts }
     requires blank { 0 < blank.parts }
@@ -132,8 +110,11 @@ fn left_with<R: Threads + Sync + Abort, L: Ledger>(
 {
     let mut steps = Steps::<L>::new(blank);
     let mut engine = Engine::new(alloc)?;
-    run_history(rt, alloc, &mut engine, history, max, workers, &mut steps)?;
-    shape_of(alloc, &engine)
+    for edits in history {
+        let roll = roll_of(rt, alloc, *edits)?;
+        run_all(rt, &mut engine, &roll, max, workers, &mut steps)?;
+    }
+    Ok(engine)
 }
 
 // The same, with a counter of its own.
@@ -143,7 +124,7 @@ fn left_by<R: Threads + Sync + Abort>(
     history: &[Edits],
     max: u32,
     workers: u32,
-) -> Result<Vec<u8>, NoMemory>
+) -> Result<Engine, NoMemory>
     requires least { 1 ≤ max }
     requires most { max ≤ MOST_CALLS }
     requires some { 1 ≤ workers }
@@ -207,7 +188,8 @@ fn assert_left<R: Threads + Sync + Abort>(
     requires most { max ≤ MOST_CALLS }
 {
     for workers in [1, 3, MOST_WORKERS] {
-        let left = left_by(rt, alloc, history, max, workers)?;
+        let engine = left_by(rt, alloc, history, max, workers)?;
+        let left = shape_of(alloc, &engine)?;
         assert!(rt;
             left.as_slice() == expected,
             "{history:?}, {workers} workers"
@@ -253,32 +235,15 @@ fn histories_leave_their_shapes(rt: HostRuntime) -> Result<(), Fail> {
     Ok(())
 }
 
-// How many rows a history leaves of an empty table, and each of them.
-fn rows_left_with<R: Threads + Sync + Abort, L: Ledger>(
-    rt: &R,
-    alloc: Global,
-    history: &[Edits],
-    blank: Blank,
-) -> Result<Vec<u8>, NoMemory>
-    requires blank_name { blank.name ≡ L.name }
-    requires blank_parts { blank.parts ≡ L.parts }
-    requires blank { 0 < blank.parts }
-{
-    let mut steps = Steps::<L>::new(blank);
-    let mut engine = Engine::new(alloc)?;
-    run_history(rt, alloc, &mut engine, history, ALL, 1, &mut steps)?;
-    let mut text = Vec::new(alloc);
-    append_rows(&engine.tree.all_rows()?, &mut text)?;
-    Ok(text)
-}
-
 // The first leaf is left too small, and its rows are put in anew.
 #[test]
 fn all_rows_are_those_that_a_history_leaves(rt: HostRuntime) -> Result<(), Fail> {
     use Edits::{Dels, Sets};
     let alloc = rt.alloc();
     let history = [Sets(10, 26), Dels(10, 11), Dels(26, 26)];
-    let left = rows_left_with::<HostRuntime, Brand>(&rt, alloc, &history, Blank::new(1))?;
+    let engine = left_by(&rt, alloc, &history, ALL, 1)?;
+    let mut left = Vec::new(alloc);
+    append_rows(&engine.tree.all_rows()?, &mut left)?;
     let mut expected = Vec::new(alloc);
     append(b"14", &mut expected)?;
     append_numbers(12, 25, &mut expected)?;
