@@ -7,6 +7,7 @@ use Rattle.std.proofs.Math.Pow.{pow_mono}
 use Rattle.palm_base.specs.declared.bounds.TheConstants.{MOST_LEVELS}
 use Rattle.palm_base.specs.Cut.{piece_count}
 use Rattle.palm_base.specs.Tree.{Subtree, Tree}
+use Rattle.palm_base.specs.Lawful.{IsOrderly}
 use Rattle.palm_base.specs.Pass.{nodes_over, top}
 use Rattle.palm_base.specs.declared.bounds.TheConstants.{MOST_CHILDREN}
 use Rattle.palm_base.specs.Cut.{cut}
@@ -18,7 +19,7 @@ use Rattle.palm_node.specs.declared.id.NodeId.{NodeId}
 use Rattle.palm_node.specs.declared.id.Piece.{Piece}
 use Rattle.palm_node.specs.declared.node.Node.{Node}
 use Rattle.palm_node.specs.declared.node.Node.TheVariants.{Inner}
-use Rattle.palm_node.proofs.TopLevels.{IsOrderly, half_as_many, nodes_orderly, top_alone, top_next, lows_rise, more_levels, few_levels}
+use Rattle.palm_node.proofs.TopLevels.{half_as_many, nodes_orderly, top_alone, top_next, lows_rise, more_levels, few_levels}
 use Rattle.palm_arena.specs.declared.shape.Shape.{Shape}
 use Rattle.palm_arena.specs.Cells.{Cell, Owns}
 use Rattle.palm_arena.specs.Placed.{Body, Placed, value_in, values, cells_of, cells_under, bare, ids_of_children, with_ids, own_cells}

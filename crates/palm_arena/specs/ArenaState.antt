@@ -51,6 +51,7 @@ abbrev pub NoneLent : List Place → Type 0
 NoneLent places = (id : NodeId) → ¬ IsLent places id
 
 -- The places with another at an index, appended where the list ends there, after as many empty ones as it lacks.
+-- So (Holds a, Lent) with Lent at 3 is (Holds a, Lent, Empty, Lent).
 abbrev pub set_place : List Place → ℕ → Place → List Place
 set_place [] zero place = place ∷ []
 set_place [] (suc i) place = Empty ∷ set_place [] i place

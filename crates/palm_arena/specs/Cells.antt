@@ -5,6 +5,7 @@ use Rattle.palm_node.specs.declared.node.Node.{Node}
 use Rattle.palm_arena.specs.Reads.{same_place}
 
 -- What a list of nodes has at an id: none, one, or more than one. Where there is more than one it doesn't matter which.
+-- So (0, a), (1, b), (1, c) have One a at 0, Several at 1 and Nothing at 2.
 pub data Found : Type 0 where
   Nothing : Found
   One : Node → Found
@@ -19,15 +20,17 @@ both (One node) Several = Several
 both Several other = Several
 
 -- What a map has at an id: its node, where it is live.
+-- So where a stands at 0 and nothing at 2, it is One a at 0, and Nothing at 2.
 abbrev pub found : Option Node → Found
 found None = Nothing
 found (Some node) = One node
 
--- A node with the id that it stands at.
+-- A node with the id that it stands at. So that of the leaf b at the place 1 is (1, b).
 abbrev pub Cell : Type 0
 Cell = NodeId × Node
 
 -- What one cell has at an id, by whether the id is its own.
+-- So the cell (1, b) has One b at 1, which is its own, and Nothing at 2.
 abbrev pub found_if : Bool → Node → Found
 found_if true node = One node
 found_if false node = Nothing

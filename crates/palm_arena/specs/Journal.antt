@@ -21,6 +21,7 @@ abbrev pub places_at_begin : ℕ → Journal → List Place → List Place
 places_at_begin count journal places = undo journal.saved.items (take count places)
 
 -- The same where a batch is under way, and nothing between batches.
+-- So with the places and the entries above it is (Holds a) for a count of one, and nothing without a count.
 abbrev pub begun_with : Option ℕ → Journal → List Place → Option (List Place)
 begun_with begun journal places = option_map (λ count. places_at_begin count journal places) begun
 
@@ -63,6 +64,8 @@ pub record Appends (id : NodeId) (place : Place) (before after : Journal) : Type
 -- A batch under way, which began with so many places, and with these. Exactly the places that it touched are saved. Those
 -- past the ones that it began with are touched, and so are those that are lent. A touched place that is not empty is that
 -- of an id that moved.
+-- So where it began with (Holds a, Holds b) and lent 1, the places are (Holds a, Lent), the marks (false, true), b is saved for
+-- 1, and 1 moved.
 pub record Keeps (count : ℕ) (base : List Place) (journal : Journal) (places : List Place) (moved : List NodeId) : Type 0 where
   pub marks : length journal.touched.items ≡ length places
   pub within : count ≤ length places
@@ -81,13 +84,15 @@ pub record Puts (id : NodeId) (node : Node) (before : Journal) (old : List Place
   pub unused : (count : ℕ) (base : List Place) (moved : List NodeId) → Keeps count base before old moved → IsVacant base id
   pub kept : (count : ℕ) (base : List Place) (moved : List NodeId) → Keeps count base before old moved → Keeps count base after new (moved ++ id ∷ [])
 
--- Between batches nothing is saved and no place is touched.
+-- Between batches nothing is saved and no place is touched. So with the places (Holds a, Empty) the marks are (false, false).
 pub record IsIdle (journal : Journal) (places : List Place) : Type 0 where
   pub marks : length journal.touched.items ≡ length places
   pub saved : journal.saved.items ≡ []
   pub marked : NoneMarked journal.touched.items
 
 -- What holds of an arena's parts, while a batch is under way and between batches.
+-- So between batches (Holds a) has the marks (false), and a batch that lent 0 has the places (Lent), the marks (true), and a
+-- saved for 0.
 abbrev pub IsKept : Option ℕ → Journal → List Place → List NodeId → Type 0
 IsKept None journal places moved = IsIdle journal places
 IsKept (Some count) journal places moved = Keeps count (places_at_begin count journal places) journal places moved

@@ -15,9 +15,11 @@ abbrev pub OthersStay : Type 0
 OthersStay = (places : List Place) (id other : NodeId) (place : Place) → other ≢ id → place_at (with_place places id place) other ≡ place_at places other
 
 -- Where nothing is lent, nothing is after a place was put that isn't Lent.
+-- So (Holds a) with Holds c at 2 is (Holds a, Empty, Holds c), where nothing is lent.
 abbrev pub NoneLentAfterPut : Type 0
 NoneLentAfterPut = (places : List Place) (id : NodeId) (place : Place) → place ≢ Lent → NoneLent places → NoneLent (with_place places id place)
 
 -- Where nothing is lent, nothing is after a node was lent and given back.
+-- So (Holds a, Holds b) after 1 was lent and given back with c is (Holds a, Holds c), where nothing is lent.
 abbrev pub NoneLentAfterReturn : Type 0
 NoneLentAfterReturn = (places : List Place) (id : NodeId) (node : Node) → NoneLent places → NoneLent (with_place (with_place places id Lent) id (Holds node))

@@ -17,12 +17,15 @@ pub record LeafPlace : Type 0 where
 
 -- The leaves under these children of a node, the first of which is its child `i`, at these lows. `go` gives those under one
 -- child by the path to it, its low and its id.
+-- So of the root 0 with the lows 5, 20 and the ids 1, 2, from its child 0 on, they are those under 1 by the path (0, 0) and the
+-- low 5, and those under 2 by the path (0, 1) and the low 20.
 abbrev pub leaves_of_children : (List (NodeId × ℕ) → ℕ → NodeId → List LeafPlace) → List (NodeId × ℕ) → NodeId → ℕ → List ℕ → List NodeId → List LeafPlace
 leaves_of_children go path id i lows [] = []
 leaves_of_children go path id i [] (child ∷ children) = []
 leaves_of_children go path id i (low ∷ lows) (child ∷ children) = go (path ++ (id, i) ∷ []) low child ++ leaves_of_children go path id (suc i) lows children
 
 -- The leaves under a node: the first child's range begins where the node's does, and each other at its separator.
+-- So under a node over 1 and 2 with the separator 20, whose range begins at 5, that of 1 begins at 5, and that of 2 at 20.
 abbrev pub leaves_of_node : (List (NodeId × ℕ) → ℕ → NodeId → List LeafPlace) → List (NodeId × ℕ) → ℕ → NodeId → Option InnerNode → List LeafPlace
 leaves_of_node go path low id None = []
 leaves_of_node go path low id (Some inner) = leaves_of_children go path id 0 (low ∷ inner.separators) inner.children

@@ -23,32 +23,35 @@ use Rattle.palm_arena.specs.Sites.{Site, raised, sites_below}
 use Rattle.palm_arena.specs.Standing.{Kept, kept_cells, kept_rows, removed_of, Stands}
 
 -- A pass: the tree before it with its ids, the edits in order, the leaves to which something is routed, and the nodes that
--- are in no tree.
+-- are in no tree. So one of Set 44 90 alone, which goes to the leaf at 2, has this edit, and 2 as its one routed leaf.
 pub record Pass : Type 0 where
   pub tree : PlacedTree
   pub edits : List Call
   pub routed : List NodeId
   pub rest : List Cell
 
--- The id is among these.
+-- The id is among these. So 2 is among 1, 2, and 3 isn't.
 abbrev pub is_among : List NodeId → NodeId → Bool
 is_among ids id = list_any (λ other. same_place other id) ids
 
 -- The site of the pass's root: it has no way to it, its low is 0, and all edits go to it.
+-- So of Set 44 90 over the leaf b at 3 it is that of (3, b) with this edit.
 abbrev pub root_site : (p : Pass) → Site p.tree.0
 root_site p = record { path = []; low = 0; place = p.tree.1; edits = p.edits }
 
 -- The sites of the leaves n levels below a site, from left to right.
+-- So one level below the root over the leaves 1 and 2 they are those of 1 and of 2, and no level below a leaf it is its own.
 abbrev pub leaf_sites : (n : ℕ) → Site n → List (Site zero)
 leaf_sites zero site = site ∷ []
 leaf_sites (suc n) site = flat_map (leaf_sites n) (sites_below n site)
 
 -- The edits that go to a leaf leave its rows as they are, or something is routed to it.
+-- So Set 44 120 may go to the leaf of 44 120 where nothing is routed to it, and Set 44 90 may not.
 abbrev pub IsTouchedOrStill : List NodeId → Site zero → Type 0
 IsTouchedOrStill routed site = is_among routed site.place.0 ≡ false → after_all site.place.1 site.edits ≡ site.place.1
 
 -- What a pass is over: a lawful tree whose lows are keys, Sets and Dels of prefixes, and leaves of it, outside of which no
--- edit changes a row.
+-- edit changes a row. So Set 44 90 over the empty leaf at 3 is one where 3 is routed to, and isn't where no leaf is.
 pub record IsPass (p : Pass) : Type 0 where
   pub lawful : IsLawful (value_of p.tree)
   pub lows : LowsAreKeys (value_of p.tree)
@@ -58,6 +61,7 @@ pub record IsPass (p : Pass) : Type 0 where
   pub still : AllByRecursion (IsTouchedOrStill p.routed) (leaf_sites p.tree.0 (root_site p))
 
 -- A map holds the pass's tree at a shape, beside what is in no tree.
+-- So where the tree is the leaf a at 3 alone, the map has a at 3, and the shape is the root 3 with 1 level.
 pub record Begins (p : Pass) (nodes : NodeId → Option Node) (shape : Shape) : Type 0 where
   pub is-pass : IsPass p
   pub root : shape.root ≡ p.tree.1.0
@@ -65,7 +69,7 @@ pub record Begins (p : Pass) (nodes : NodeId → Option Node) (shape : Shape) : 
   pub owned : Owns nodes (cells_of p.tree.0 p.tree.1 ++ p.rest)
 
 -- The changes of a level, counted from the leaves at 1, stand for the pass. The level is l + 1, and the root is d levels above
--- it.
+-- it. So for the leaves under a root over leaves the level is 1, l is 0 and d is 1.
 pub record StandsAt (p : Pass) (level : ℕ) (nodes : NodeId → Option Node) (changes : Changes) : Type 0 where
   pub is-pass : IsPass p
   pub d : ℕ
@@ -79,10 +83,13 @@ pub record StandsAt (p : Pass) (level : ℕ) (nodes : NodeId → Option Node) (c
   pub stands : Stands d l root (is_among p.routed) p.rest nodes changes
 
 -- What the serial rule makes of what is under the pass's root.
+-- So of a root leaf of 44 120 by Set 44 90 it is one piece of 44 90, with the low 0 and nothing loose.
 abbrev pub outcome_of : (p : Pass) → Outcome (base_level p.tree.0)
 outcome_of p = base_pass p.tree.0 (value_in p.tree.0 p.tree.1.1) p.edits
 
 -- The tree after the pass stands at a shape, beside what the removed nodes of the changes hold.
+-- So after Set 44 90 over the empty leaf at 3 it may be the root 3 with 1 level, where 3 has the leaf of 44 90 and nothing is
+-- loose or removed.
 pub record IsRepaired (p : Pass) (nodes : NodeId → Option Node) (changes : Changes) (shape : Shape) : Type 0 where
   pub is-pass : IsPass p
   pub tree : PlacedTree
@@ -95,6 +102,7 @@ pub record IsRepaired (p : Pass) (nodes : NodeId → Option Node) (changes : Cha
   pub owned : Owns nodes (cells_of tree.0 tree.1 ++ (flat_map kept_cells kept ++ p.rest))
 
 -- A tree stands at a shape, beside what is in no tree.
+-- So the empty tree does at the root 3 with 1 level where the leaf of no rows stands at 3.
 pub record StandsAlone (value : Tree) (rest : List Cell) (nodes : NodeId → Option Node) (shape : Shape) : Type 0 where
   pub tree : PlacedTree
   pub root : shape.root ≡ tree.1.0

@@ -31,6 +31,7 @@ inner_in (Some (Leaf rows)) = None
 inner_in (Some (Inner inner)) = Some inner
 
 -- A child with its low before the others, where all of them read.
+-- So b at 20 before (30, c) is (20, b), (30, c), and there is nothing where b or the others don't read.
 abbrev pub with_child : {T : Type 0} → ℕ → Option T → Option (List (ℕ × T)) → Option (List (ℕ × T))
 with_child low None children = None
 with_child low (Some child) None = None
@@ -45,6 +46,7 @@ children_at read [] (id ∷ ids) = None
 children_at read (low ∷ lows) (id ∷ ids) = with_child low (read id) (children_at read lows ids)
 
 -- The children of an inner node: the first has the low 0, and each other the separator before it.
+-- So those of 1, 2 with the separator 20 have the lows 0 and 20.
 abbrev pub children_in : {T : Type 0} → (NodeId → Option T) → Option InnerNode → Option (List (ℕ × T))
 children_in read None = None
 children_in read (Some inner) = children_at read (0 ∷ inner.separators) inner.children
@@ -68,7 +70,7 @@ pub record HasTree (map : NodeId → Option Node) (shape : Shape) : Type 0 where
   pub lawful : IsLawful tree
   pub lows : LowsAreKeys tree
 
--- The ids of the children of a node. A leaf has none.
+-- The ids of the children of a node. A leaf has none. So those of an inner node over 1 and 2 are 1, 2.
 abbrev pub child_ids : Option InnerNode → List NodeId
 child_ids None = []
 child_ids (Some inner) = inner.children
@@ -82,7 +84,7 @@ ids_under map (suc n) id = id ∷ flat_map (ids_under map n) (child_ids (inner_i
 abbrev pub ids_of : (NodeId → Option Node) → Shape → List NodeId
 ids_of map shape = ids_under map (shape.levels - 1) shape.root
 
--- Whether two ids are of one place.
+-- Whether two ids are of one place. So 1 and 1 are, and 1 and 2 aren't.
 abbrev pub same_place : NodeId → NodeId → Bool
 same_place id other = id.place == other.place
 

@@ -25,7 +25,8 @@ groups (suc n) (suc k) word = (word / 16 ^ k % 16) ∷ groups n k word
 abbrev pub digits_of : ℕ → List ℕ
 digits_of word = groups (word % 16) 15 (word / 16)
 
--- The word is the key of the prefix that it packs.
+-- The word is the key of the prefix that it packs. So 0x4400000000000002 is one, and 0x4400000000000001 isn't, since it packs 4
+-- alone, whose key is another.
 pub record IsKey (word : ℕ) : Type 0 where
   pub prefix : IsPrefix (digits_of word)
   pub whole : key (digits_of word) ≡ word

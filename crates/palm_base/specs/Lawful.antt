@@ -1,5 +1,5 @@
 -- What makes a tree lawful: how many rows and children its nodes have, and how their keys rise.
-use Rattle.std.specs.Prelude.{◌≡◌, ℕ, ◌<◌, ◌≤◌, List, [], ◌∷◌, length}
+use Rattle.std.specs.Prelude.{◌≡◌, ℕ, ◌<◌, ◌≤◌, ◌⊎◌, List, [], ◌∷◌, length}
 use Rattle.std.proofs.Common.{zero, suc}
 use Rattle.palm_base.specs.Table.{row_key}
 use Rattle.palm_base.specs.Tree.{Subtree, Tree}
@@ -14,7 +14,7 @@ HasFromTo least most items = (least ≤ length items) × (length items ≤ most)
 abbrev pub IsIn : ℕ → ℕ → ℕ → Type 0
 IsIn low high k = (low ≤ k) × (k < high)
 
--- The row's key lies there.
+-- The row's key lies there. So that of 2 lies from the key of 19 on and below that of 28.
 abbrev pub RowIsIn : ℕ → ℕ → Row → Type 0
 RowIsIn low high row = IsIn low high (row_key row)
 
@@ -48,6 +48,11 @@ Sound (suc n) first high children =
 -- children of a node, or pieces that have no node over them yet. `Sound` spells this out, since it is defined by itself.
 abbrev pub InOrder : (n : ℕ) → ℕ → ℕ → List (ℕ × Subtree n) → Type 0
 InOrder n = Chain (λ child. child.0) (λ l h child. (l < h) × Sound n l h child.1)
+
+-- Pieces of one level over which a root can be put: at most one, or some in order. So a leaf alone is, of however few rows, and
+-- beside another it has LEAST_LEAF_ROWS or more.
+abbrev pub IsOrderly : (n : ℕ) → List (ℕ × Subtree n) → Type 0
+IsOrderly n pieces = (length pieces ≤ 1) ⊎ ((high : ℕ) × InOrder n 0 high pieces)
 
 -- A root whose keys lie below `high`: a leaf has at most MOST_LEAF_ROWS rows, and an inner root 2 to MOST_CHILDREN
 -- children. So the empty leaf is a root, and an inner root has never one child.

@@ -11,19 +11,21 @@ use Rattle.palm_base.specs.declared.row.Row.{Row}
 use Rattle.palm_base.specs.declared.call.Call.{Call}
 use Rattle.palm_base.specs.declared.call.Entry.{Entry}
 
--- A prefix stands before another exactly where its key is below the other's.
+-- A prefix stands before another exactly where its key is below the other's. So 1, 0 stands before 2, and 0x1000000000000002 is
+-- below 0x2000000000000001.
 abbrev pub KeysKeepOrder : Type 0
 KeysKeepOrder = (p q : List ℕ) → IsPrefix p → IsPrefix q → Decides (comes_before p q) (key p < key q)
 
--- Two prefixes with one key are one.
+-- Two prefixes with one key are one. So 4 and 4, 0 have two keys, 0x4000000000000001 and 0x4000000000000002.
 abbrev pub KeysAreDistinct : Type 0
 KeysAreDistinct = (p q : List ℕ) → IsPrefix p → IsPrefix q → key p ≡ key q → p ≡ q
 
--- Each call leaves a table.
+-- Each call leaves a table. So a Set of 10 puts its row between those of 1 and 2.
 abbrev pub CallsKeepTables : Type 0
 CallsKeepTables = (rows : List Row) (call : Call) → IsTable rows → IsTable (after rows call)
 
--- A history leaves what its calls leave, whoever the callers are.
+-- A history leaves what its calls leave, whoever the callers are. So Set 44 5, Del 44 leave of the empty table no row, be they
+-- one caller's or two callers'.
 abbrev pub HistoriesGoByCalls : Type 0
 HistoriesGoByCalls = (rows : List Row) (entries : List Entry) → table_after rows entries ≡ after_all rows (calls_of entries)
 
@@ -34,7 +36,7 @@ RepliesStandInPlace =
     (rows : List Row) (entries : List Entry) (n : ℕ) (entry : Entry) → slice_get entries n ≡ Some entry
     → slice_get (replies_to rows entries) n ≡ Some (answer (table_at rows entries n) entry.call)
 
--- A history has one reply for each entry.
+-- A history has one reply for each entry. So three calls have three.
 abbrev pub RepliesAreAsMany : Type 0
 RepliesAreAsMany = (rows : List Row) (entries : List Entry) → length (replies_to rows entries) ≡ length entries
 
@@ -59,6 +61,6 @@ PiecesAreWide X =
     (half : ℕ) (items piece : List X) (i : ℕ) → 0 < half → half + half < length items
     → slice_get (cut (half + half) items) i ≡ Some piece → (half ≤ length piece) × (length piece ≤ half + half)
 
--- A list of at least one item and no more than the width is one piece.
+-- A list of at least one item and no more than the width is one piece. So at the width 16 a list of 16 items is its only piece.
 abbrev pub FewAreOnePiece : Type 0 → Type 0
 FewAreOnePiece X = (width : ℕ) (items : List X) → 0 < length items → length items ≤ width → cut width items ≡ items ∷ []

@@ -156,7 +156,8 @@ base_pass (suc n) children edits = below n (pass n) children edits
 
 -- ---- the batch
 
--- The tree after one pass, and the root over its pieces. Its loose rows aren't in it.
+-- The tree after one pass, and the root over its pieces. Its loose rows aren't in it. So where a Del leaves 7 rows in the
+-- second of two leaves, which has a first of 9, it is the leaf of the 9 rows.
 abbrev pub passed_tree : Tree → List Call → Tree
 passed_tree tree edits = top (base_level tree.0) (base_pass tree.0 tree.1 edits).pieces
 

@@ -27,7 +27,8 @@ abbrev pub inner_line : {X : Type 0} → List (ℕ × X) → List ℕ
 inner_line children =
     codes "inner " ++ (decimal (length children) ++ (flat_map (λ child. separator_text child.0) (drop 1 children) ++ codes "\n"))
 
--- The nodes of one level, and then those of the levels below: all inner nodes of a level stand before the first leaf.
+-- The nodes of one level, and then those of the levels below: all inner nodes of a level stand before the first leaf. So under
+-- a root over two leaves they are the root's line and two lines of leaves.
 abbrev pub level_lines : (n : ℕ) → List (Subtree n) → List ℕ
 level_lines zero leaves = flat_map leaf_line leaves
 level_lines (suc n) nodes = flat_map inner_line nodes ++ level_lines n (flat_map (λ children. map (λ child. child.1) children) nodes)

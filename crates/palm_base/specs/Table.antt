@@ -18,28 +18,31 @@ abbrev pub IsTable : List Row → Type 0
 IsTable [] = Unit {0}
 IsTable (row ∷ rows) = AllByRecursion (λ later. row_key row < row_key later) rows × IsTable rows
 
--- The rate of the row with this key, where there is one.
+-- The rate of the row with this key, where there is one. So among 1 at 5 and 10 at 7 it is 7 by the key of 10, and there is
+-- none by that of 2.
 abbrev pub rate_at : ℕ → List Row → Option ℕ
 rate_at k [] = None
 rate_at k (row ∷ rows) = if row_key row == k then Some row.rate else rate_at k rows
 
--- The table with this row in place of the row of its prefix, or put in at its place.
+-- The table with this row in place of the row of its prefix, or put in at its place. So the row of 10 is put between those of 1
+-- and 2, and in place of another row of 10.
 abbrev pub put : Row → List Row → List Row
 put new [] = new ∷ []
 put new (row ∷ rows) =
     let later = row ∷ put new rows in
     if nat_lt (row_key new) (row_key row) then new ∷ row ∷ rows else if row_key new == row_key row then new ∷ rows else later
 
--- The rows with another key.
+-- The rows with another key. So of the rows of 1, 10 and 2 those of 1 and 2 are left without the key of 10.
 abbrev pub without : ℕ → List Row → List Row
 without k rows = filter (λ row. not (row_key row == k)) rows
 
--- Of a row and perhaps another, the one with more digits.
+-- Of a row and perhaps another, the one with more digits. So of the rows of 44 and 4 it is that of 44, and of two as long the
+-- first.
 abbrev pub longer : Row → Option Row → Option Row
 longer row None = Some row
 longer row (Some other) = if nat_lt (length row.prefix) (length other.prefix) then Some other else Some row
 
--- The row with the most digits, where there is a row.
+-- The row with the most digits, where there is a row. So of the rows of 4, 442 and 44 it is that of 442.
 abbrev pub longest : List Row → Option Row
 longest [] = None
 longest (row ∷ rows) = longer row (longest rows)
@@ -48,11 +51,12 @@ longest (row ∷ rows) = longer row (longest rows)
 abbrev pub best_for : List ℕ → List Row → Option Row
 best_for number rows = longest (filter (λ row. begins row.prefix number) rows)
 
--- The row's key lies from one key to another, both included.
+-- The row's key lies from one key to another, both included. So the row of 10 lies from the key of 1 to that of 10, and that of
+-- 2 doesn't.
 abbrev pub lies_within : ℕ → ℕ → Row → Bool
 lies_within from to row = nat_le from (row_key row) && nat_le (row_key row) to
 
--- The reply by what is found, and Absent where that is nothing.
+-- The reply by what is found, and Absent where that is nothing. So by Value it is Value 5 where 5 is found.
 abbrev pub or_absent : {X : Type 0} → (X → Reply) → Option X → Reply
 or_absent found None = Absent
 or_absent found (Some x) = found x

@@ -15,15 +15,16 @@ Subtree (suc n) = List (ℕ × Subtree n)
 abbrev pub Tree : Type 0
 Tree = (n : ℕ) × Subtree n
 
--- How many levels a tree has. A leaf alone is one level.
+-- How many levels a tree has. A leaf alone is one level. So a root over leaves makes two.
 abbrev pub levels_of : Tree → ℕ
 levels_of tree = suc tree.0
 
--- The rows of a node's leaves, from left to right.
+-- The rows of a node's leaves, from left to right. So those under a node over the leaves of 1, 10 and of 2 are those of 1, 10,
+-- 2.
 abbrev pub rows_in : (n : ℕ) → Subtree n → List Row
 rows_in zero rows = rows
 rows_in (suc n) children = flat_map (λ child. rows_in n child.1) children
 
--- The rows of a tree.
+-- The rows of a tree. So the empty tree has none.
 abbrev pub rows_of : Tree → List Row
 rows_of tree = rows_in tree.0 tree.1

@@ -14,7 +14,7 @@ use Rattle.palm_base.specs.declared.call.Entry.{Entry}
 abbrev pub BatchesKeepRows : Type 0
 BatchesKeepRows = (tree : Tree) (calls : List Call) → IsLawful tree → rows_of (batch_tree tree calls) ≡ after_all (rows_of tree) calls
 
--- A batch leaves a lawful tree.
+-- A batch leaves a lawful tree. So where a Set makes 17 rows of a leaf, two leaves of 9 and 8 stand in its place.
 abbrev pub BatchesKeepLaw : Type 0
 BatchesKeepLaw = (tree : Tree) (calls : List Call) → IsLawful tree → IsLawful (batch_tree tree calls)
 
@@ -22,12 +22,13 @@ BatchesKeepLaw = (tree : Tree) (calls : List Call) → IsLawful tree → IsLawfu
 abbrev pub SecondPassIsWhole : Type 0
 SecondPassIsWhole = (tree : Tree) (rows : List Row) → IsLawful tree → (base_pass tree.0 tree.1 (map set_of rows)).loose ≡ []
 
--- However a history is cut, its tree has the rows that its calls leave.
+-- However a history is cut, its tree has the rows that its calls leave. So Set 44 5, Set 45 9, Del 44 leave the row of 45, in
+-- one batch and in three.
 abbrev pub CuttingsKeepRows : Type 0
 CuttingsKeepRows =
     (tree : Tree) (entries : List Entry) (lengths : List ℕ) → IsLawful tree → IsCutting entries lengths
     → rows_of (tree_after tree entries lengths) ≡ table_after (rows_of tree) entries
 
--- And it is lawful.
+-- And it is lawful. So the same calls leave a leaf of one row in either way.
 abbrev pub CuttingsKeepLaw : Type 0
 CuttingsKeepLaw = (tree : Tree) (entries : List Entry) (lengths : List ℕ) → IsLawful tree → IsLawful (tree_after tree entries lengths)

@@ -1,5 +1,5 @@
-//! How prefixes, rates and rows are written. Each call appends to a buffer. Where memory is refused, part of what it appends
-//! may stand there: what stood there before still does, so that the caller can take the rest back.
+//! How prefixes, rates and rows are written, at the end of a buffer. Where memory is refused, part of a text may stand there
+//! behind what stood there before, which the caller takes back by `whole_or_nothing`.
 
 ghost use Rattle.std.specs.Prelude.{◌≡◌, ◌++◌, take, OnOk, OnErr};
 ghost use Rattle.std.specs.Fmt.{decimal};

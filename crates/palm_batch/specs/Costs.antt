@@ -11,7 +11,8 @@ use Rattle.palm_batch.specs.Passing.{edits_in}
 abbrev pub cost_of : ℕ → ℕ → ℕ → ℕ
 cost_of parts orphans levels = 2 * (parts + orphans) * (levels + 2)
 
--- The levels of a tree before or after a batch, whichever are more.
+-- The levels of a tree before or after a batch, whichever are more. So where 17 Sets make of the empty leaf a root over two
+-- leaves, they are 2.
 abbrev pub levels_over : Tree → List Entry → ℕ
 levels_over tree batch = max (levels_of tree) (levels_of (batch_tree tree (calls_of batch)))
 

@@ -40,18 +40,20 @@ LeavesOthers old new = (id : NodeId) → IsHeld new.places id → ¬ Contains ne
 abbrev pub edits_in : List Entry → List Call
 edits_in batch = filter is_edit (calls_of batch)
 
--- The Set that puts a row in, as an entry of a batch of the tree's own.
+-- The Set that puts a row in, as an entry of a batch of the tree's own. So that of 44 at 5 is Set 44 5, by the caller 0 and at
+-- the place 0.
 abbrev pub set_entry : Row → Entry
 set_entry row = record { caller = 0; place = 0; call = set_of row }
 
--- The parts of a batch on the leaves of a map.
+-- The parts of a batch on the leaves of a map. So on a leaf alone Get 44 has one, and Rate 442 has three.
 abbrev pub parts_at : (NodeId → Option Node) → Shape → List Entry → List Part
 parts_at nodes shape batch = parts_of (leaves_at nodes shape) 0 batch
 
--- The parts of a batch, put together by leaf.
+-- The parts of a batch, put together by leaf. So those of Get 44, Get 4 on a leaf alone are one group of two parts.
 abbrev pub groups_at : (NodeId → Option Node) → Shape → List Entry → List Group
 groups_at nodes shape batch = groups_of (leaves_at nodes shape) (parts_at nodes shape batch)
 
--- What the leaves answer the parts of a batch, from left to right.
+-- What the leaves answer the parts of a batch, from left to right. So on a leaf alone of 44 at 5, Set 44 9, Get 44 are answered
+-- 5 and 9.
 abbrev pub answers_at : (NodeId → Option Node) → Shape → List Entry → List PartAnswer
 answers_at nodes shape batch = flat_map (λ group. answers_in (rows_at nodes group.leaf) group.parts) (groups_at nodes shape batch)

@@ -23,7 +23,7 @@ use Rattle.palm_leaf.specs.declared.answer.PartAnswer.{PartAnswer}
 
 -- ---- the reply that the answers to a call's parts make
 
--- The reply to a call before anything is joined to it: no rows to a List, and Absent to any other.
+-- The reply to a call before anything is joined to it: no rows to a List, and Absent to any other. So it is Absent to Get 44.
 abbrev pub unanswered : Call → Reply
 unanswered (Set prefix rate) = Absent
 unanswered (Del prefix) = Absent
@@ -53,6 +53,7 @@ with_more limit found (Rows rows) = Rows (take limit (rows ++ found))
 with_more limit found reply = reply
 
 -- The reply to a call of which one more part found these rows: those of a List's leaf stand behind those of the leaves before it.
+-- So where those before found 1, 10 and this one 2, 20, a List of at most 3 has 1, 10, 2.
 abbrev pub with_found : Call → List Row → Reply → Reply
 with_found (Set prefix rate) found reply = reply
 with_found (Del prefix) found reply = reply
@@ -60,12 +61,14 @@ with_found (Get prefix) found reply = reply
 with_found (Rate number) found reply = reply
 with_found (Listing from to limit) found reply = with_more limit found reply
 
--- The reply to a call of which one more part, by this key, is answered so.
+-- The reply to a call of which one more part, by this key, is answered so. So to a Get it is Value 5 by the rate 5, whatever it
+-- was before.
 abbrev pub with_answer : Call → ℕ → LeafAnswer → Reply → Reply
 with_answer call k (Old old) reply = with_rate call k old reply
 with_answer call k (Found found) reply = with_found call found reply
 
--- The reply to a call with the answer to one more of its parts.
+-- The reply to a call with the answer to one more of its parts. So to Rate 442, which has Hit 4 3 so far, the rate 5 of its
+-- part 44 makes Hit 44 5.
 abbrev pub joined : Call → Reply → PartAnswer → Reply
 joined call reply a = with_answer call a.part.key a.answer reply
 
@@ -77,7 +80,7 @@ reply_joined call answers = fold (joined call) (unanswered call) answers
 
 -- ---- the replies that the answers to a batch's parts make
 
--- Of answers, those to the parts of one entry.
+-- Of answers, those to the parts of one entry. So to Get 44, Get 4 the entry 1 has the answer to Get 4 alone.
 abbrev pub answers_to : ℕ → List PartAnswer → List PartAnswer
 answers_to entry answers = filter (λ a. a.part.entry == entry) answers
 
@@ -90,6 +93,7 @@ replies_joined first (entry ∷ entries) answers = reply_joined entry.call (answ
 -- ---- which answers go with which calls
 
 -- A part of the call may have found a rate or that there is none: one of any call but a List, and of a Rate by the key of a prefix.
+-- So a Get may have found 5, and a List may not.
 abbrev pub FindsRate : Call → ℕ → Type 0
 FindsRate (Set prefix rate) k = Unit {0}
 FindsRate (Del prefix) k = Unit {0}
@@ -97,7 +101,7 @@ FindsRate (Get prefix) k = Unit {0}
 FindsRate (Rate number) k = IsKey k
 FindsRate (Listing from to limit) k = ⊥
 
--- It may have found so many rows: a List's, no more than its limit.
+-- It may have found so many rows: a List's, no more than its limit. So a List of at most 3 may have found 3, and a Get none.
 abbrev pub FindsRows : Call → ℕ → Type 0
 FindsRows (Set prefix rate) n = ⊥
 FindsRows (Del prefix) n = ⊥
@@ -105,7 +109,8 @@ FindsRows (Get prefix) n = ⊥
 FindsRows (Rate number) n = ⊥
 FindsRows (Listing from to limit) n = n ≤ limit
 
--- What a leaf answers may be of a part of the call by this key: a rate of any other than a List, and rows of a List.
+-- What a leaf answers may be of a part of the call by this key: a rate of any other than a List, and rows of a List. So the
+-- rate 5 may be one of a Get, and two rows one of a List of at most 3.
 abbrev pub MayAnswer : Call → ℕ → LeafAnswer → Type 0
 MayAnswer call k (Old old) = FindsRate call k
 MayAnswer call k (Found rows) = FindsRows call (length rows)
@@ -114,11 +119,12 @@ MayAnswer call k (Found rows) = FindsRows call (length rows)
 abbrev pub Fits : Call → PartAnswer → Type 0
 Fits call a = MayAnswer call a.part.key a.answer
 
--- The answer is one to a part of one of these entries, by the entry's place.
+-- The answer is one to a part of one of these entries, by the entry's place. So to Get 44 alone the rate 5 is one at the entry
+-- 0, and none at the entry 1.
 abbrev pub FitsEntry : List Entry → PartAnswer → Type 0
 FitsEntry batch a = (a.part.entry < length batch) × ((other : Entry) → Fits (slice_index_or batch a.part.entry other).call a)
 
--- The reply is rows, and no more than so many.
+-- The reply is rows, and no more than so many. So the rows of 1, 10 are no more than 3, and Absent isn't rows.
 abbrev pub IsRows : ℕ → Reply → Type 0
 IsRows limit New = ⊥
 IsRows limit (Was old) = ⊥
@@ -128,7 +134,8 @@ IsRows limit (Value rate) = ⊥
 IsRows limit (Hit row) = ⊥
 IsRows limit (Rows rows) = length rows ≤ limit
 
--- The reply may be one so far to the call: that to a List is rows, no more than its limit.
+-- The reply may be one so far to the call: that to a List is rows, no more than its limit. So four rows are none to a List of
+-- at most 3, and to a Get any reply may be one.
 abbrev pub IsSoFar : Call → Reply → Type 0
 IsSoFar (Set prefix rate) reply = Unit {0}
 IsSoFar (Del prefix) reply = Unit {0}

@@ -16,7 +16,7 @@ kind_named word =
     else if bytes_eq word (codes "rates") then Some Rates
     else None
 
--- The call is a Set.
+-- The call is a Set. So Set 44 5 is, and Del 44 isn't.
 abbrev pub IsSet : Call → Type 0
 IsSet (Set prefix rate) = Unit {0}
 IsSet (Del prefix) = ⊥
@@ -24,7 +24,7 @@ IsSet (Get prefix) = ⊥
 IsSet (Rate number) = ⊥
 IsSet (Listing from to limit) = ⊥
 
--- The call is a Del.
+-- The call is a Del. So Del 44 is, and Get 44 isn't.
 abbrev pub IsDel : Call → Type 0
 IsDel (Set prefix rate) = ⊥
 IsDel (Del prefix) = Unit {0}
@@ -32,7 +32,7 @@ IsDel (Get prefix) = ⊥
 IsDel (Rate number) = ⊥
 IsDel (Listing from to limit) = ⊥
 
--- The call is a Get.
+-- The call is a Get. So Get 44 is, and Rate 44 isn't.
 abbrev pub IsGet : Call → Type 0
 IsGet (Set prefix rate) = ⊥
 IsGet (Del prefix) = ⊥
@@ -40,7 +40,7 @@ IsGet (Get prefix) = Unit {0}
 IsGet (Rate number) = ⊥
 IsGet (Listing from to limit) = ⊥
 
--- The call is a Rate.
+-- The call is a Rate. So Rate 442 is, and Get 442 isn't.
 abbrev pub IsRate : Call → Type 0
 IsRate (Set prefix rate) = ⊥
 IsRate (Del prefix) = ⊥
@@ -48,7 +48,7 @@ IsRate (Get prefix) = ⊥
 IsRate (Rate number) = Unit {0}
 IsRate (Listing from to limit) = ⊥
 
--- A Set or a Del.
+-- A Set or a Del. So Set 44 5 and Del 44 are one each, and Get 44 isn't.
 abbrev pub IsEdit : Call → Type 0
 IsEdit call = IsSet call ⊎ IsDel call
 

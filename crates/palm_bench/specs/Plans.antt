@@ -12,12 +12,14 @@ abbrev pub value_of : List ℕ → ℕ
 value_of word = digits_value 10 (without_leading_plus word)
 
 -- The word spells a number from 1 to the greatest one: digits, which one plus may lead.
+-- So "17" and "+17" do where the greatest is 20, and "0" and "21" don't.
 pub record IsCount (most : ℕ) (word : List ℕ) : Type 0 where
   pub digits : IsNumeral 10 (without_leading_plus word)
   pub least : 1 ≤ value_of word
   pub greatest : value_of word ≤ most
 
 -- The words KIND COUNT BATCH WORKERS, where each is well formed, plan this.
+-- So "gets", "100", "8", "2" plan 100 Gets in batches of 8 by 2 workers.
 pub record SaysPlan (kind count batch workers : List ℕ) (plan : Plan) : Type 0 where
   pub kind-is : kind_named kind ≡ Some plan.kind
   pub count-is : IsCount MOST_COUNT count × (plan.count ≡ value_of count)

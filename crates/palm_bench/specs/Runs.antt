@@ -23,7 +23,7 @@ reply_number (Value rate) = 5 + 8 * rate
 reply_number (Hit row) = 6 + 8 * row.rate
 reply_number (Rows rows) = 7
 
--- The sum with a reply more.
+-- The sum with a reply more. So New makes 1 of 0, and Absent makes 35 of 1.
 abbrev pub with_reply : ℕ → Reply → ℕ
 with_reply sum reply = (sum * 31 + reply_number reply) % 2 ^ 64
 
@@ -32,7 +32,8 @@ abbrev pub with_replies : ℕ → List Reply → ℕ
 with_replies sum [] = sum
 with_replies sum (reply ∷ replies) = with_replies (with_reply sum reply) replies
 
--- There are so many calls of a kind that leave the one table of the other, and their replies make the one sum of the other.
+-- There are so many calls of a kind that leave the table `after` of `before`, and their replies make the sum `total` of `sum`.
+-- So one call of Load, Set 44 5, leaves of no row and the sum 0 the row 44 5 and the sum 1.
 pub record HasRun (kind : Kind) (count : ℕ) (before after : List Row) (sum total : ℕ) : Type 0 where
   pub calls : List Entry
   pub many : length calls ≡ count
@@ -41,6 +42,7 @@ pub record HasRun (kind : Kind) (count : ℕ) (before after : List Row) (sum tot
   pub total-is : total ≡ with_replies sum (replies_to before calls)
 
 -- The empty table was loaded by so many calls, and as many of the kind were run on it then.
+-- So where Set 44 5 loaded and Get 44 ran, the count is 1, the row 44 5 is left, and the sum is 76.
 pub record HasLoadedAndRun (kind : Kind) (count : ℕ) (rows : List Row) (sum : ℕ) : Type 0 where
   pub loaded : List Row
   pub so_far : ℕ
@@ -48,6 +50,7 @@ pub record HasLoadedAndRun (kind : Kind) (count : ℕ) (rows : List Row) (sum : 
   pub run : HasRun kind count loaded rows so_far sum
 
 -- What a run of a kind leaves: a load the table that it loads, and each other kind one that was loaded before.
+-- So the load Set 44 5 leaves the row 44 5 and the sum 1, and with Get 44 behind it a run of Gets leaves this row and 76.
 abbrev pub Leaves : Kind → ℕ → List Row → ℕ → Type 0
 Leaves Load count rows sum = HasRun Load count [] rows 0 sum
 Leaves Sets count rows sum = HasLoadedAndRun Sets count rows sum
@@ -56,6 +59,7 @@ Leaves Gets count rows sum = HasLoadedAndRun Gets count rows sum
 Leaves Rates count rows sum = HasLoadedAndRun Rates count rows sum
 
 -- What is told of a run: the rows and the levels of the lawful tree that it leaves, and the sum over its replies.
+-- So of the load Set 44 5 these are 1 row, 1 level and the sum 1.
 pub record IsOutcome (kind : Kind) (count rows levels sum : ℕ) : Type 0 where
   pub tree : Tree
   pub lawful : IsLawful tree

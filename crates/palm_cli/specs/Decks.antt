@@ -23,7 +23,8 @@ pub record IsGoodDeck (most : ℕ) (b : List ℕ) (old new : Option (List ℕ)) 
   pub text : Appends old new (deck_left edits)
   pub tree : after ≡ tree_left most edits
 
--- The record of this number is the first of the deck b with a fault, and this is its fault.
+-- The record of this number is the first of the deck b with a fault, and this is its fault. So of the lines "op,prefix,rate",
+-- "set,44,7" and "set,4x,7" it is the record 3, with Prefix.
 pub record IsBadDeck (b : List ℕ) (row : ℕ) (why : DeckWhy) : Type 0 where
   pub size : length b ≤ MOST_BYTES
   pub first : deck_of b ≡ Err (Bad row why)

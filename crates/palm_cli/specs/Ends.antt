@@ -32,7 +32,8 @@ IsDone Replay settings left old new after = IfSome left (λ b. IsGoodScript sett
 IsDone Deck settings left old new after = IfSome left (λ b. IsGoodDeck settings.batch b old new after)
 IsDone Gen settings left old new after = IsSummed settings old new after
 
--- No more steps were counted than all batches together may take.
+-- No more steps were counted than all batches together may take. So for a script of Get 44, Rate 442 in one batch they are at
+-- most 24.
 abbrev pub TookFew : Mode → Settings → (left : Option (List ℕ)) → (before now : ℕ) → Type 0
 TookFew Replay settings left before now = IfSome left (λ b. now ≤ before + run_cost (run_of settings (script_of b true)))
 TookFew Deck settings left before now = IfSome left (λ b. IfOk (deck_of b) (λ edits. now ≤ before + cost_left settings.batch edits))
@@ -50,7 +51,8 @@ IsLong Replay settings left old new after = IfSome left (λ b. IsLongScript sett
 IsLong Deck settings left old new after = IfSome left (λ b. MOST_BYTES < length b) × (new ≡ old)
 IsLong Gen settings left old new after = ⊥
 
--- The run stopped before its end, after these bytes were read: what was taken begins what all would give.
+-- The run stopped before its end, after these bytes were read: what was taken begins what all would give. So in `gen` it may be
+-- "call", which begins "calls 0".
 abbrev pub IsStopped : Mode → Settings → (read : List ℕ) (rest old new : Option (List ℕ)) → Type 0
 IsStopped Replay settings read rest old new = IsStoppedScript settings read rest old new
 IsStopped Deck settings read rest old new = IsStoppedDeck read rest old new
@@ -65,7 +67,8 @@ EndsUnfailed Gen code = (code ≡ 0) ⊎ (code ≡ 6)
 -- ---- by the status
 
 -- What surrounds a run: the bytes that its source had left before and has now, those that its sink had taken before and has
--- now, where they are told, the counts of faults of both, before and now, and how many steps were counted.
+-- now, where they are told, the counts of faults of both, before and now, and how many steps were counted. So where 3 of 5
+-- bytes were read, `left` has 5 and `rest` the last 2.
 pub record Outside : Type 0 where
   pub left : Option (List ℕ)
   pub rest : Option (List ℕ)
@@ -78,15 +81,17 @@ pub record Outside : Type 0 where
   pub steps_before : ℕ
   pub steps_now : ℕ
 
--- The run stopped after some bytes were read.
+-- The run stopped after some bytes were read. So where a source had 5 bytes and has the last 2, it stopped after the first 3.
 abbrev pub HasStopped : Mode → Settings → Outside → Type 0
 HasStopped mode settings o = (read : List ℕ) × Consumes o.left o.rest read × IsStopped mode settings read o.rest o.taken o.now
 
--- The source was read to its end, where the mode reads it at all.
+-- The source was read to its end, where the mode reads it at all. So in `deck` it has no byte left, and in `gen` nothing is
+-- asked of it.
 abbrev pub IsReadWhole : Mode → (rest : Option (List ℕ)) → Type 0
 IsReadWhole mode rest = reads mode ≡ true → IsAtEnd rest
 
--- What a run in a mode says of its end, where it leaves this tree.
+-- What a run in a mode says of its end, where it leaves this tree. So at WriteFault the sink counts a fault more, and what was
+-- taken begins what all would give.
 abbrev pub EndsIn : Mode → Settings → Status → Outside → Tree → Type 0
 EndsIn mode settings Done o after =
     IsDone mode settings o.left o.taken o.now after × IsReadWhole mode o.rest × (o.reads_now ≡ o.reads_before) × (o.writes_now ≡ o.writes_before)
@@ -102,15 +107,16 @@ EndsIn mode settings TooLong o after = HasReadPast o.left o.rest × IsLong mode 
 EndsIn mode settings (BadRow row why) o after =
     (mode ≡ Deck) × IfSome o.left (λ b. IsBadDeck b row why) × IsAtEnd o.rest × HasStopped mode settings o
 
--- The same in the mode of the settings.
+-- The same in the mode of the settings. So in `gen` Done says that the summary was taken.
 abbrev pub EndsAs : Settings → Status → Outside → Tree → Type 0
 EndsAs settings status o after = EndsIn settings.mode settings status o after
 
--- The words were refused, or memory was while they were read.
+-- The words were refused, or memory was while they were read. So Usage says it, and ReadFault doesn't.
 abbrev pub IsRefused : Status → Type 0
 IsRefused status = (status ≡ Usage) ⊎ (status ≡ NoMemory)
 
--- How the program ends by what its words set, where they are of the form. Where they aren't, they were refused.
+-- How the program ends by what its words set, where they are of the form. Where they aren't, they were refused. So after the
+-- word `rest` alone, which is no mode, there is Usage or NoMemory.
 abbrev pub HasEnded : Option Settings → Status → Outside → Tree → Type 0
 HasEnded None status o after = IsRefused status
 HasEnded (Some settings) status o after = EndsAs settings status o after

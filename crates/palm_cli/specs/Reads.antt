@@ -20,11 +20,12 @@ pub record IsEdits (left rest : Option (List ℕ)) (before now : ℕ) (edits : L
   pub kept : now ≡ before
   pub says : deck_of bytes ≡ Ok edits
 
--- Some bytes were read.
+-- Some bytes were read. So a source of "abc" has "bc" where "a" was read.
 abbrev pub IsReadFrom : (left rest : Option (List ℕ)) → Type 0
 IsReadFrom left rest = (read : List ℕ) × Consumes left rest read
 
--- No good deck was read, and this is why. One that has a faulty record was read to its end.
+-- No good deck was read, and this is why. One that has a faulty record was read to its end. So at ReadFault the source counts a
+-- fault more, and at Done it isn't so.
 abbrev pub IsNoDeck : (left rest : Option (List ℕ)) (before now : ℕ) → Status → Type 0
 IsNoDeck left rest before now NoMemory = IsReadFrom left rest
 IsNoDeck left rest before now ReadFault = Rose before now × IsReadFrom left rest

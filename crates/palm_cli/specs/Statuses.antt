@@ -8,7 +8,7 @@ use Rattle.palm_script.specs.declared.line.LineFault.{LineFault}
 use Rattle.palm_cli.specs.declared.status.Status.{Status}
 use Rattle.palm_cli.specs.declared.status.Status.TheVariants.{Done, Usage, BadLine, ReadFault, WriteFault, NoMemory, TooLong, BadRow}
 
--- The exit status.
+-- The exit status. So that of Usage is 2.
 abbrev pub code_of : Status → ℕ
 code_of Done = 0
 code_of Usage = 2
@@ -19,7 +19,7 @@ code_of NoMemory = 6
 code_of TooLong = 7
 code_of (BadRow row why) = 8
 
--- All went well.
+-- All went well. So it is true of Done, and not of NoMemory.
 abbrev pub is_done : Status → Bool
 is_done Done = true
 is_done _ = false
@@ -30,7 +30,7 @@ names_fault (BadLine fault) = true
 names_fault (BadRow row why) = true
 names_fault _ = false
 
--- A line of the program about itself: so that of "usage" is "palm: usage".
+-- A line of the program about itself. So that of "usage" is "palm: usage".
 abbrev pub own_line : List ℕ → List ℕ
 own_line text = codes "palm: " ++ (text ++ codes "\n")
 
@@ -42,7 +42,7 @@ line_told fault = own_line (fault_text fault)
 abbrev pub row_told : ℕ → DeckWhy → List ℕ
 row_told row why = own_line (deck_fault_text (BadDeck row why))
 
--- The line on the error stream, which is empty where all went well.
+-- The line on the error stream, which is empty where all went well. So that of TooLong is "palm: input too long".
 abbrev pub status_text : Status → List ℕ
 status_text Done = []
 status_text Usage = codes "palm: usage\n"

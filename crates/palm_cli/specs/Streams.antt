@@ -9,12 +9,14 @@ use Rattle.palm_script.specs.declared.input.TheConstants.{MOST_BYTES}
 abbrev pub AppendsFront : (old new : Option (List ℕ)) → List ℕ → Type 0
 AppendsFront old new text = (n : ℕ) × (n ≤ length text) × Appends old new (take n text)
 
--- A front of this line was taken, and all of it where the count of faults didn't rise.
+-- A front of this line was taken, and all of it where the count of faults didn't rise. So of "palm: usage" a sink that counted
+-- a fault may have taken "palm: ".
 pub record Told (old new : Option (List ℕ)) (before now : ℕ) (line : List ℕ) : Type 0 where
   pub front : AppendsFront old new line
   pub whole : now ≡ before → before < 2 ^ 64 - 1 → Appends old new line
 
--- A transcript as far as it is written: with what stands at its end, or without.
+-- A transcript as far as it is written: with what stands at its end, or without. So that of a run without calls is empty, or
+-- "end 0 0", where nothing is dumped.
 abbrev pub text_to : DumpWhen → Bool → List Section → List ℕ
 text_to dump ends run = if ends then final_of dump run else text_of dump run
 

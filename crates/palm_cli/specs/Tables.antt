@@ -17,6 +17,6 @@ table_left history = table_after [] history
 abbrev pub tree_left : ℕ → List Entry → Tree
 tree_left most history = tree_after (zero, []) history (cut_by most (length history))
 
--- How many steps these batches may take.
+-- How many steps these batches may take. So those of Get 44, Rate 442 in one batch may take 24.
 abbrev pub cost_left : ℕ → List Entry → ℕ
 cost_left most history = batches_cost (zero, []) history (cut_by most (length history))

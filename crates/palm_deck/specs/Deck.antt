@@ -19,28 +19,28 @@ use Rattle.palm_deck.specs.declared.deck.DeckWhy.TheVariants.{Header, Fields, Op
 use Rattle.palm_deck.specs.declared.deck.DeckFault.{DeckFault}
 use Rattle.palm_deck.specs.declared.deck.DeckFault.TheVariants.{NoMemory, Bad}
 
--- A record: its fields, each as bytes.
+-- A record: its fields, each as bytes. So "set", "44", "5" is one, of three fields.
 abbrev pub Record : Type 0
 Record = List (List ℕ)
 
 -- ---- the records of a deck
 
--- The mark that spreadsheets write at the front.
+-- The mark that spreadsheets write at the front. So it is 239, 187 and 191.
 abbrev pub order_mark : List ℕ
 order_mark = 0xEF ∷ 0xBB ∷ 0xBF ∷ []
 
--- The bytes behind the mark, where it stands at their front.
+-- The bytes behind the mark, where it stands at their front. So 239, 187, 191, 111 leave 111, and 111 alone leaves 111 too.
 abbrev pub without_mark : List ℕ → List ℕ
 without_mark bytes = if bytes_eq (take 3 bytes) order_mark then drop 3 bytes else bytes
 
 -- The records of a deck: those that `csv` reads of the bytes without the mark. It drops a second mark by itself, and lines
--- without bytes are no records.
+-- without bytes are no records. So those of "op,prefix,rate\nset,44,5\n" are "op", "prefix", "rate" and "set", "44", "5".
 abbrev pub records_of : List ℕ → List Record
 records_of bytes = records default_config (strip_bom (without_mark bytes))
 
 -- ---- what a record says
 
--- The record is "op", "prefix", "rate".
+-- The record is "op", "prefix", "rate". So "op", "prefix" isn't it, nor is "OP", "prefix", "rate".
 abbrev pub is_header : Record → Bool
 is_header (op ∷ prefix ∷ rate ∷ []) = bytes_eq op (codes "op") && bytes_eq prefix (codes "prefix") && bytes_eq rate (codes "rate")
 is_header _ = false
@@ -74,29 +74,32 @@ abbrev pub call_by : Record → Result Call DeckWhy
 call_by (op ∷ prefix ∷ rate ∷ []) = call_in op prefix rate
 call_by _ = Err Fields
 
--- The same of record n, whose fault carries its number.
+-- The same of record n, whose fault carries its number. So "set", "4x", "1" as record 2 has the fault Bad 2 Prefix.
 abbrev pub call_at : ℕ → Record → Result Call DeckFault
 call_at n fields = result_map_both (λ call. call) (λ why. Bad n why) (call_by fields)
 
 -- ---- what a deck says
 
 -- A record's edit before those of the records behind it, or the first fault of them all.
+-- So Set 44 5 before Del 4 makes Set 44 5, Del 4, and before a fault of row 3 it makes that fault.
 abbrev pub before : Result Call DeckFault → Result (List Call) DeckFault → Result (List Call) DeckFault
 before (Err fault) rest = Err fault
 before (Ok call) (Err fault) = Err fault
 before (Ok call) (Ok calls) = Ok (call ∷ calls)
 
 -- The edits of records of which the first is record n, or the first fault in their order.
+-- So "set", "44", "5" and "del", "4", "" from 2 on are Set 44 5, Del 4, and with "1" at the end row 3 has the fault Rate.
 abbrev pub calls_from : ℕ → List Record → Result (List Call) DeckFault
 calls_from n [] = Ok []
 calls_from n (fields ∷ rest) = before (call_at n fields) (calls_from (n + 1) rest)
 
 -- The edits of all records of a deck, of which the first is the header, or the first fault.
+-- So the header and "set", "44", "5" say Set 44 5, and without the header the fault is Bad 1 Header.
 abbrev pub calls_in : List Record → Result (List Call) DeckFault
 calls_in [] = Err (Bad 1 Header)
 calls_in (first ∷ rest) = if is_header first then calls_from 2 rest else Err (Bad 1 Header)
 
--- Edits as entries of caller 0 with the places 0, 1, 2 and so on.
+-- Edits as entries of caller 0 with the places 0, 1, 2 and so on. So Set 44 5, Del 4 are (0, 0, Set 44 5), (0, 1, Del 4).
 abbrev pub placed : Result (List Call) DeckFault → Result (List Entry) DeckFault
 placed (Err fault) = Err fault
 placed (Ok calls) = Ok (numbered 0 0 calls)
@@ -107,7 +110,7 @@ abbrev pub deck_of : List ℕ → Result (List Entry) DeckFault
 deck_of bytes = placed (calls_in (records_of bytes))
 
 -- The entries are those of the records before this one and its own edit: the header is record 1, so that the n-th edit,
--- counted from 0, is that of record n + 2.
+-- counted from 0, is that of record n + 2. So after no entry "set", "44", "5" is record 2, and leaves (0, 0, Set 44 5).
 abbrev pub IsNext : Record → List Entry → List Entry → Type 0
 IsNext fields entries more =
     (call : Call) × (call_at (length entries + 2) fields ≡ Ok call)
@@ -119,13 +122,13 @@ IsNext fields entries more =
 abbrev pub row_line : Row → List ℕ
 row_line row = codes "set," ++ (digits_text row.prefix ++ (codes "," ++ (decimal row.rate ++ codes "\n")))
 
--- The deck of rows: the header, and each row's line.
+-- The deck of rows: the header, and each row's line. So that of 44 at 5 has the lines "op,prefix,rate" and "set,44,5".
 abbrev pub deck_text : List Row → List ℕ
 deck_text rows = codes "op,prefix,rate\n" ++ flat_map row_line rows
 
 -- ---- how a fault is told
 
--- The code of what is wrong with a record.
+-- The code of what is wrong with a record. So that of Header is 1, and that of Rate is 5.
 abbrev pub why_code : DeckWhy → ℕ
 why_code Header = 1
 why_code Fields = 2

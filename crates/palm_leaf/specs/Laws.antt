@@ -25,7 +25,7 @@ AsksRate ask.Del = Unit {0}
 AsksRate ask.Look = Unit {0}
 AsksRate (ask.List from to limit) = ⊥
 
--- The part asks for a rate.
+-- The part asks for a rate. So a part of Set 44 90 does, and one of a List doesn't.
 abbrev pub IsForRate : Part → Type 0
 IsForRate part = AsksRate part.ask
 

@@ -20,12 +20,12 @@ abbrev pub AllLent : List Place → List NodeId → Type 0
 AllLent places [] = Unit {0}
 AllLent places (id ∷ ids) = IsLent places id × AllByRecursion (λ other. id ≢ other) ids × AllLent places ids
 
--- The id is one of these.
+-- The id is one of these. So 2 is one of 1, 2, and 3 isn't.
 abbrev pub IsOneOf : NodeId → List NodeId → Type 0
 IsOneOf id [] = ⊥
 IsOneOf id (other ∷ ids) = (id ≡ other) ⊎ IsOneOf id ids
 
--- These ids are lent, and no others.
+-- These ids are lent, and no others. So in (Holds a, Lent, Lent) they are 1, 2, and not 1 alone.
 pub record LentAre (places : List Place) (ids : List NodeId) : Type 0 where
   pub each : AllLent places ids
   pub only : (id : NodeId) → IsLent places id → IsOneOf id ids
@@ -36,15 +36,17 @@ present [] = []
 present (None ∷ items) = present items
 present (Some x ∷ items) = x ∷ present items
 
--- The ids of the leaves that are lent for works.
+-- The ids of the leaves that are lent for works. So those of a work on the leaf at 1 and one on the leaf at 2 are 1, 2.
 abbrev pub lease_ids : List LeafWork → List NodeId
 lease_ids works = map (λ work. work.lease.id) works
 
--- A leaf as its lease holds it.
+-- A leaf as its lease holds it. So that of a lease of the id 2 and the leaf b is (2, b).
 abbrev pub lease_cell : LeafWork → Cell
 lease_cell work = (work.lease.id, work.lease.node)
 
 -- A group's leaf, lent with its plan.
+-- So for a group of Set 44 90 on the leaf at 2, which is the child 1 of 0 from 20 on, the lease is of 2, and the plan has this
+-- part, this way and the low 20.
 pub record IsLoaded (nodes : NodeId → Option Node) (least : ℕ) (group : Group) (work : LeafWork) : Type 0 where
   pub id : work.lease.id ≡ group.leaf
   pub leaf : work.lease.node ≡ Leaf (rows_at nodes group.leaf)
@@ -54,7 +56,8 @@ pub record IsLoaded (nodes : NodeId → Option Node) (least : ℕ) (group : Grou
   pub low : work.plan.low ≡ written_low group.path group.low
   pub least-is : work.plan.least ≡ least
 
--- It was worked on: its parts are answered, and it is what becomes of it.
+-- A group's leaf after its work: its parts are answered, and it shows what becomes of the leaf.
+-- So after Set 44 90 on the leaf of 44 120 with the least 0 the answer is 120, and the leaf is kept with the row 44 90.
 pub record IsEnded (nodes : NodeId → Option Node) (least : ℕ) (group : Group) (work : LeafWork) : Type 0 where
   pub id : work.lease.id ≡ group.leaf
   pub leaf : (left : List Row) × (work.lease.node ≡ Leaf left)
@@ -64,6 +67,7 @@ pub record IsEnded (nodes : NodeId → Option Node) (least : ℕ) (group : Group
   pub outcome : outcome_of_plan (rows_in_node (Some work.lease.node)) work.plan ≡ (end_of nodes least group).outcome
 
 -- Each of these leaves belongs to its group.
+-- So where a group fits the works on its own leaf, those of 1, 2 match works on 1, 2, and neither on 2, 1 nor on 1 alone.
 abbrev pub Matched : (Group → LeafWork → Type 0) → List Group → List LeafWork → Type 0
 Matched Fits [] [] = Unit {0}
 Matched Fits [] (work ∷ works) = ⊥

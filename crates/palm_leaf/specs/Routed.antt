@@ -22,11 +22,14 @@ GoesByKey k ask.Look = Unit {0}
 GoesByKey k (ask.List from to limit) = Unit {0}
 
 -- The part, where it is an edit, goes by the key of a prefix.
+-- So a part with a Set by the key of 44 does, and one with a Set by 0 doesn't.
 abbrev pub HasKey : Part → Type 0
 HasKey part = GoesByKey part.key part.ask
 
 -- The groups are those of a pass: they are the groups of some parts on its leaves, whose edits are the pass's and go by the
 -- keys of prefixes, and the leaves to which the pass routes something are theirs.
+-- So of the part of Set 44 90 alone, which goes to the leaf at 2, the one group is that of 2, the one edit Set 44 90, and the
+-- one routed leaf 2.
 pub record IsRouted (p : Pass) (nodes : NodeId → Option Node) (shape : Shape) (groups : List Group) (parts : List Part) : Type 0 where
   pub groups-are : groups ≡ groups_of (leaves_at nodes shape) parts
   pub edits-are : p.edits ≡ edits_of parts

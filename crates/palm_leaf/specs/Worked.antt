@@ -24,26 +24,29 @@ leaf_left least low rows =
     let leaves : Outcome zero = record { pieces = leaves_of low rows; loose = [] } in
     if is_small least rows then record { pieces = []; loose = rows } else leaves
 
--- A leaf with its low.
+-- A leaf with its low. So that of the rows b with the low 28 is (28, b).
 abbrev pub low_and_rows : NewLeaf → ℕ × List Row
 low_and_rows later = (later.low, later.leaf)
 
 -- The outcome that a leaf shows: where it is kept it is the first piece, with these later ones, and else its rows are loose.
+-- So with the low 20, the rows a and the later (28, b) it is (20, a), (28, b) where it is kept, and else no piece.
 abbrev pub outcome_shown : Bool → ℕ → List Row → List (ℕ × List Row) → List Row → Outcome zero
 outcome_shown kept low first later rows =
     let removed : Outcome zero = record { pieces = []; loose = rows } in
     if kept then record { pieces = (low, first) ∷ later; loose = [] } else removed
 
 -- The outcome that a plan shows after the work, where these rows stand in the leaf.
+-- So for the rows a and a plan that keeps the leaf, with the low 20 and the later leaf b from 28 on, it is (20, a), (28, b).
 abbrev pub outcome_of_plan : List Row → LeafPlan → Outcome zero
 outcome_of_plan first plan = outcome_shown plan.kept plan.low first (map low_and_rows plan.later.items) plan.rows.items
 
--- The parts of a plan, in their order.
+-- The parts of a plan, in their order. So those of a plan for Set 44 90 and then a look-up of 44 are these two.
 abbrev pub parts_of_plan : LeafPlan → List Part
 parts_of_plan plan = map part_of plan.asked.items
 
 -- A plan before the work: nothing is listed yet, and there is room for all that may come of a leaf of so many rows. Where it
 -- is only looked at, it stands on, and needs no room for rows.
+-- So one of Set 44 90 for a leaf of 16 rows has room for 17 rows and for one later leaf.
 pub record IsPlan (held : ℕ) (plan : LeafPlan) : Type 0 where
   pub no_rows : plan.rows.items ≡ []
   pub no_later : plan.later.items ≡ []
@@ -54,16 +57,19 @@ pub record IsPlan (held : ℕ) (plan : LeafPlan) : Type 0 where
   pub waits : AllByRecursion (IsOpen (held + vec_len plan.asked)) plan.asked.items
 
 -- The parts of a plan with the answers that they were given, in their order.
+-- So after Set 44 90 and a look-up of 44 on no rows they are nothing and then 90.
 abbrev pub answers_of_plan : LeafPlan → List PartAnswer
 answers_of_plan plan = map answered plan.asked.items
 
 -- The work may be run: its node is a leaf, and its plan is one.
+-- So one of Set 44 90 on a leaf of 16 rows may, with room for 17 rows and a later leaf, and one on an inner node may not.
 pub record IsReady (work : LeafWork) : Type 0 where
   pub leaf : (rows : List Row) × (work.lease.node ≡ Leaf rows)
   pub plan : IsPlan (length (rows_in_node (Some work.lease.node))) work.plan
 
 -- The work on a leaf of these rows was run: each part is answered on the rows that the parts before it left, and the leaf is
 -- what the serial rule makes of it.
+-- So after Set 44 90 on the leaf of 44 120 with the least 0 the answer is 120, and the leaf is kept with the row 44 90.
 pub record IsWorked (rows : List Row) (before after : LeafWork) : Type 0 where
   pub id : after.lease.id ≡ before.lease.id
   pub path : after.plan.path ≡ before.plan.path
@@ -74,10 +80,12 @@ pub record IsWorked (rows : List Row) (before after : LeafWork) : Type 0 where
   pub outcome : outcome_of_plan (rows_in_node (Some after.lease.node)) after.plan ≡ leaf_left before.plan.least before.plan.low (after_all rows (edits_of (parts_of_plan before.plan)))
 
 -- The work was run, whatever the rows of its leaf were.
+-- So where the leaf had the row 44 120 and the part is Set 44 90, it is answered 120.
 abbrev pub HasRun : LeafWork → LeafWork → Type 0
 HasRun before after = (rows : List Row) → before.lease.node ≡ Leaf rows → IsWorked rows before after
 
 -- The parts of a plan were resolved on rows: each is answered, and their edits are done to the rows.
+-- So Set 44 90 on the row 44 120 is answered 120, and the rows are 44 90 then.
 pub record IsResolved (rows : List Row) (before after : LeafPlan) : Type 0 where
   pub answers : answers_of_plan after ≡ answers_in rows (parts_of_plan before)
   pub rows-are : after.rows.items ≡ after_all rows (edits_of (parts_of_plan before))

@@ -14,11 +14,11 @@ last_step path = slice_index_or path (length path - 1) (record { place = 0 }, 0)
 abbrev pub path_above : List (NodeId × ℕ) → List (NodeId × ℕ)
 path_above path = take (length path - 1) path
 
--- The place of a changed child in its node.
+-- The place of a changed child in its node. So that of a change with the path (0, 1), (3, 2) is 2.
 abbrev pub child_place : Change → ℕ
 child_place change = (last_step change.path).1
 
--- Ids with lows, as many as there are of both.
+-- Ids with lows, as many as there are of both. So 0, 20 with a, b, c are (0, a), (20, b).
 abbrev pub pieces_at : List ℕ → List NodeId → List Piece
 pieces_at lows [] = []
 pieces_at [] (id ∷ ids) = []
@@ -36,6 +36,7 @@ spliced from children (change ∷ changes) =
     take (child_place change - from) (drop from children) ++ (change.pieces ++ spliced (child_place change + 1) children changes)
 
 -- What is left of a node's children: those that didn't change, and the pieces of those that did.
+-- So of a, b with the separator 20, where (20, b), (30, c) stand for b, it is (0, a), (20, b), (30, c).
 abbrev pub children_left : InnerNode → List Change → List Piece
 children_left node changes = spliced 0 (children_of node) changes
 

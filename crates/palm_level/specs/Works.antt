@@ -18,22 +18,26 @@ abbrev pub later_over : List Piece → LaterNode
 later_over pieces = record { low = first_low (λ piece. piece.low) pieces; node = inner_over pieces }
 
 -- The node that keeps its id: the one over the first part, and where there is no part the node as it was.
+-- So with parts of 9 and 8 pieces it is the one over the 9.
 abbrev pub first_node : InnerNode → List (List Piece) → InnerNode
 first_node node [] = node
 first_node node (part ∷ parts) = inner_over part
 
 -- The parts that are left of a node's children.
+-- So of 17 children left they are one of 9 and one of 8, of 7 one of 7, and of none there is no part.
 abbrev pub parts_left : InnerNode → List Change → List (List Piece)
 parts_left node changes = cut MOST_CHILDREN (children_left node changes)
 
 -- A node can be made anew over what stands for its children: each changed child has a place in it, in order, and the lows
 -- of the children that are left strictly rise.
+-- So the one of a, b with the separator 20 can where (20, b), (30, c) stand for b, and it can't where (20, b), (15, c) do.
 pub record CanSplice (node : InnerNode) (changes : List Change) : Type 0 where
   pub paths : AllByRecursion (λ change. 0 < length change.path) changes
   pub places : PlacesRise 0 (length node.children) changes
   pub rising : Rise (later_lows (children_left node changes))
 
 -- A work may run: there is an inner node in its lease, which can be made anew, and there is room for all of it.
+-- So where 17 children will be left, there is room for 17 of them and for one later node.
 pub record IsReady (work : LevelWork) : Type 0 where
   pub node : InnerNode
   pub is-inner : work.lease.node ≡ Inner node
@@ -44,6 +48,7 @@ pub record IsReady (work : LevelWork) : Type 0 where
   pub later-room : piece_count MOST_CHILDREN (length (children_left node work.changes.now)) ≤ vec_capacity work.later + 1
 
 -- What a work that has run leaves: the node over the first part in its lease, and the later parts.
+-- So where 17 children are left, the lease has the node over the first 9, and the one later node is over the other 8.
 pub record HasRun (before after : LevelWork) : Type 0 where
   pub id : after.lease.id ≡ before.lease.id
   pub made : (node : InnerNode) → before.lease.node ≡ Inner node

@@ -9,7 +9,7 @@ use Rattle.palm_base.specs.Table.{row_key, IsTable}
 use Rattle.palm_base.specs.Cut.{piece_count, cut}
 use Rattle.palm_base.specs.Tree.{Subtree}
 use Rattle.palm_base.specs.Pass.{with_lows, leaves_of, node_over, nodes_over, top, top_in}
-use Rattle.palm_base.specs.Lawful.{Rising, InOrder}
+use Rattle.palm_base.specs.Lawful.{Rising, InOrder, IsOrderly}
 use Rattle.palm_base.specs.declared.bounds.TheConstants.{LEAST_LEAF_ROWS, MOST_LEAF_ROWS, LEAST_CHILDREN, MOST_CHILDREN}
 use Rattle.palm_base.specs.declared.row.Row.{Row}
 use Rattle.palm_base.proofs.Builds.{top_few}
@@ -34,10 +34,6 @@ pub half_as_many : (count : ℕ) → 2 ≤ count → piece_count 16 count * 2 �
 half_as_many count two = omega arith
 
 -- ---- children in order, or one alone
-
--- At most one child, or children in order.
-abbrev pub IsOrderly : (n : ℕ) → List (ℕ × Subtree n) → Type 0
-IsOrderly n children = (length children ≤ 1) ⊎ ((h : ℕ) × InOrder n 0 h children)
 
 pub leaves_orderly : (rows : List Row) → IsTable rows → IsOrderly zero (leaves_of 0 rows)
 leaves_orderly rows table = by (cases_lt MOST_LEAF_ROWS (length rows))

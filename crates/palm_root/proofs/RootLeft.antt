@@ -6,7 +6,7 @@ use Rattle.std.proofs.lemmas.List.{append-nil}
 use Rattle.palm_base.specs.Table.{after_all}
 use Rattle.palm_base.specs.Tree.{Subtree, Tree}
 use Rattle.palm_base.specs.Pass.{Outcome, below, base_pass, leaves_of, top, top_in, passed_tree}
-use Rattle.palm_base.specs.Lawful.{next_low, InOrder, Root}
+use Rattle.palm_base.specs.Lawful.{next_low, InOrder, Root, IsOrderly}
 use Rattle.palm_base.specs.declared.row.Row.{Row}
 use Rattle.palm_base.specs.declared.call.Call.{Call}
 use Rattle.palm_base.proofs.Batches.{highest, adds_below, root_wider}
@@ -22,7 +22,7 @@ use Rattle.palm_node.specs.declared.id.Piece.{Piece}
 use Rattle.palm_node.specs.declared.node.Node.{Node}
 use Rattle.palm_node.specs.declared.node.Node.TheVariants.{Leaf, Inner}
 use Rattle.palm_node.specs.declared.change.Changes.{Changes}
-use Rattle.palm_node.proofs.TopLevels.{IsOrderly, leaves_orderly, top_alone}
+use Rattle.palm_node.proofs.TopLevels.{leaves_orderly, top_alone}
 use Rattle.palm_arena.specs.declared.shape.Shape.{Shape}
 use Rattle.palm_arena.specs.Cells.{Cell, Owns, Turns}
 use Rattle.palm_arena.specs.Placed.{Placed, PlacedTree, value_in, value_of, values, bare, cells_of, cells_under}

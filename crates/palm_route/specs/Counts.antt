@@ -11,6 +11,7 @@ use Rattle.palm_route.specs.Parts.{list_keys}
 
 -- The keys at which the ranges of the leaves under children begin. The first child's range begins at `low`, as its parent's
 -- does, and each other's at its own low. `go` gives those under one child by the key at which the child's range begins.
+-- So from 5 on two leaves with the lows 0 and 20 have 5 and 20.
 abbrev pub lows_of_children : {T : Type 0} → (ℕ → T → List ℕ) → ℕ → List (ℕ × T) → List ℕ
 lows_of_children go low [] = []
 lows_of_children go low (child ∷ children) = go low child.1 ++ flat_map (λ later. go later.0 later.1) children

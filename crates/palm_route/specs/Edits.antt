@@ -9,6 +9,7 @@ use Rattle.palm_route.specs.declared.part.Ask.TheVariants as ask
 use Rattle.palm_route.specs.declared.part.Part.{Part}
 
 -- What a part that asks this by this key puts before other edits: a Set or a Del of the key's prefix, and else nothing.
+-- So by the key of 44 a Set to 5 puts Set 44 5 there, and a look puts nothing.
 abbrev pub edit_before : ℕ → Ask → List Call → List Call
 edit_before key (ask.Set rate) edits = call.Set (digits_of key) rate ∷ edits
 edit_before key ask.Del edits = call.Del (digits_of key) ∷ edits

@@ -7,6 +7,7 @@ use Rattle.palm_route.specs.declared.part.Routed.{Routed}
 use Rattle.palm_route.specs.declared.part.Group.{Group}
 
 -- The place of the leaf that a part is routed to.
+-- So at the leaf 2, reached as the child 1 of 0, with the low 20, it is (2, the child 1 of 0, 20).
 abbrev pub place_of : Routed → LeafPlace
 place_of routed = record { leaf = routed.leaf; path = routed.path; low = routed.low }
 
@@ -20,6 +21,7 @@ LowsRise [] = Unit {0}
 LowsRise (place ∷ places) = AllByRecursion (λ later. place.low < later.low) places × LowsRise places
 
 -- The group of a leaf with these parts, and none where there is no part.
+-- So the parts by 10 and 15 at the leaf with the low 0 make one group with the low 0, of both.
 abbrev pub group_at : LeafPlace → List Part → List Group
 group_at place [] = []
 group_at place (part ∷ parts) = record { leaf = place.leaf; path = place.path; low = place.low; parts = part ∷ parts } ∷ []

@@ -20,7 +20,7 @@ use Rattle.palm_route.specs.Parts.{lows_of, list_keys, parts_of}
 abbrev pub LeavesRise : Type 0
 LeavesRise = (nodes : NodeId → Option Node) (shape : Shape) → HasTree nodes shape → LowsRise (leaves_at nodes shape)
 
--- A lawful tree has a leaf.
+-- A lawful tree has a leaf. So the empty tree has one, its root.
 abbrev pub LeavesAreThere : Type 0
 LeavesAreThere = (nodes : NodeId → Option Node) (shape : Shape) → HasTree nodes shape → 1 ≤ length (leaves_at nodes shape)
 
@@ -32,6 +32,7 @@ ListsMeetLeaves =
     → list_keys from to (lows_of (leaves_at nodes shape)) ≡ map (first_key from) (leaves_met from to (leaves_at nodes shape))
 
 -- Each of these keys goes to the leaf that it was made for.
+-- So over the lows 0, 20 and 30 the keys of a List from 10 to 25 go home: 10 to the first leaf, and 20 to the second.
 abbrev pub KeysComeHome : Type 0
 KeysComeHome =
     (nodes : NodeId → Option Node) (shape : Shape) (from to : ℕ) → HasTree nodes shape

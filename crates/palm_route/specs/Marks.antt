@@ -10,7 +10,7 @@ abbrev pub marks_from : ℕ → List Routed → List Mark
 marks_from place [] = []
 marks_from place (one ∷ routed) = record { low = one.low; place = place } ∷ marks_from (suc place) routed
 
--- Some part at a low, where none is marked.
+-- Some part at a low, where none is marked. So at 20 it looks for the key 0 for the entry 0, at the leaf 0 with the low 20.
 abbrev pub at_low : ℕ → Routed
 at_low low = record { part = record { entry = 0; number = 0; key = 0; ask = ask.Look }; leaf = record { place = 0 }; path = []; low = low }
 

@@ -16,6 +16,7 @@ IsRange zero low high rows = low < high
 IsRange (suc n) low high children = HasFromTo 1 MOST_CHILDREN children × InOrder n low high children
 
 -- At an id a map reads as a node so many levels above the leaves, whose range begins at `low`.
+-- So an id that reads as a leaf has one from 0 on, and from 20 on too, and an id that reads as no node has none.
 pub record HasRange (map : NodeId → Option Node) (below low : ℕ) (id : NodeId) : Type 0 where
   pub node : Subtree below
   pub reads-as : reads map below id ≡ Some node

@@ -4,11 +4,11 @@ use Rattle.std.specs.List.{fold}
 use Rattle.palm_route.specs.declared.part.Routed.{Routed}
 use Rattle.palm_route.specs.declared.part.Group.{Group}
 
--- The group of one part.
+-- The group of one part. So the part by 25 at the leaf with the low 20 makes a group with the low 20, of this part alone.
 abbrev pub group_with : Routed → Group
 group_with routed = record { leaf = routed.leaf; path = routed.path; low = routed.low; parts = routed.part ∷ [] }
 
--- A group with one more part.
+-- A group with one more part. So one of the parts by 10 and 15 has with the part by 12 those by 10, 15 and 12.
 abbrev pub grown : Group → Routed → Group
 grown group routed = record group { parts = group.parts ++ routed.part ∷ [] }
 

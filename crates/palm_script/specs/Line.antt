@@ -17,7 +17,7 @@ use Rattle.palm_script.specs.declared.line.LineWhy.{LineWhy}
 use Rattle.palm_script.specs.declared.line.LineWhy.TheVariants.{Caller, Word, Count, Prefix, Number, Long}
 use Rattle.palm_script.specs.declared.line.LineWhy.TheVariants as whys
 
--- A blank or a tab.
+-- A blank or a tab. So the bytes 32 and 9 are, and 10 isn't.
 abbrev pub is_blank : ℕ → Bool
 is_blank b = b == 32 || b == 9
 
@@ -25,7 +25,7 @@ is_blank b = b == 32 || b == 9
 abbrev pub fields : List ℕ → List (List ℕ)
 fields text = filter (λ part. nat_lt 0 (length part)) (slice_split is_blank text)
 
--- A field is a caller: a number from 0 to 63.
+-- A field is a caller: a number from 0 to 63. So "007" is one, and "64" isn't.
 abbrev pub is_caller : List ℕ → Bool
 is_caller field = is_from_to 0 MOST_CALLER field
 
@@ -33,7 +33,7 @@ is_caller field = is_from_to 0 MOST_CALLER field
 abbrev pub is_rate : List ℕ → Bool
 is_rate field = is_from_to 0 MOST_RATE field
 
--- A field is a limit: a number from 1 to 1,000.
+-- A field is a limit: a number from 1 to 1,000. So "0010" is one, and "0" isn't.
 abbrev pub is_limit : List ℕ → Bool
 is_limit field = is_from_to 1 MOST_LIMIT field
 
@@ -105,6 +105,7 @@ asked_by first others =
     if bytes_eq first (codes "dump") then alone Dump others else made_by first others
 
 -- What the fields of a line say: nothing where there are none or the first begins with '#', else what they ask for.
+-- So "#", "0" say Skip, and "0", "get", "44" the caller 0's Get of 4, 4.
 abbrev pub said_by : List (List ℕ) → Result Line LineWhy
 said_by [] = Ok Skip
 said_by (first ∷ others) = if slice_index first 0 == 35 then Ok Skip else asked_by first others
@@ -117,14 +118,14 @@ meaning_of text = if nat_lt MOST_LINE (length text) then Err Long else said_by (
 abbrev pub line_of : List ℕ → ℕ → Result Line LineFault
 line_of text n = result_map_both (λ line. line) (λ why. record { line = n; why = why }) (meaning_of text)
 
--- A call in a script is made by a caller from 0 to 63.
+-- A call in a script is made by a caller from 0 to 63. So the caller 63's Get of 4, 4 fits, and the caller 64's doesn't.
 abbrev pub LineFits : Line → Type 0
 LineFits Skip = Unit {0}
 LineFits (Made caller call) = caller ≤ MOST_CALLER
 LineFits Cut = Unit {0}
 LineFits Dump = Unit {0}
 
--- The code of what is wrong with a line.
+-- The code of what is wrong with a line. So that of Caller is 1, and that of Long is 8.
 abbrev pub why_code : LineWhy → ℕ
 why_code Caller = 1
 why_code Word = 2

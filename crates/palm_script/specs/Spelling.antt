@@ -31,7 +31,7 @@ abbrev pub line_text : Line → List ℕ
 line_text line = plain_text line ++ codes "\n"
 
 -- The arguments of a call are what they may be: prefixes and numbers of 1 to 15 digits, rates up to MOST_RATE, and limits
--- from 1 to MOST_LIMIT.
+-- from 1 to MOST_LIMIT. So those of Set 44 90 are, and those of a List with the limit 0 aren't.
 abbrev pub IsSayableCall : Call → Type 0
 IsSayableCall (Set prefix rate) = IsPrefix prefix × (rate ≤ MOST_RATE)
 IsSayableCall (Del prefix) = IsPrefix prefix
@@ -40,6 +40,7 @@ IsSayableCall (Rate number) = IsPrefix number
 IsSayableCall (Listing from to limit) = IsPrefix from × IsPrefix to × (1 ≤ limit) × (limit ≤ MOST_LIMIT)
 
 -- A script can say this: the caller of a call is at most MOST_CALLER, and its arguments are what they may be.
+-- So it can say the caller 63's Get of 4, 4, and can't say the caller 64's.
 abbrev pub IsSayable : Line → Type 0
 IsSayable Skip = Unit {0}
 IsSayable (Made caller call) = (caller ≤ MOST_CALLER) × IsSayableCall call

@@ -37,6 +37,8 @@ pub record IsStormySection (most : ℕ) (before : List Entry) (own section : Sec
   pub dumps : section.dumps ≡ own.dumps
 
 -- Sections that may stand in place of their own, one for one, after the entries before them.
+-- So after no entry and with 4 for `most`, (3, 0, x) and (0, 0, y), sections of one batch each, may stand in their own place,
+-- and one section can't stand in place of the two.
 abbrev pub IsStormyFrom : ℕ → List Entry → List Section → List Section → Type 0
 IsStormyFrom most before [] [] = Unit {0}
 IsStormyFrom most before [] (section ∷ sections) = ⊥
@@ -46,5 +48,7 @@ IsStormyFrom most before (own ∷ owns) (section ∷ sections) =
 
 -- A run of these items whose callers call beside each other within a section, in batches of `most` calls or fewer. A `cut`
 -- or a `dump` in the script still parts what stands before it from what stands behind it.
+-- So where the caller 3 makes x, the caller 0 then y and 3 then z, the section y, x, z in batches of 1 is such a run, and where
+-- a `cut` stands behind x it isn't.
 abbrev pub IsStormy : List Line → ℕ → List Section → Type 0
 IsStormy items most run = IsStormyFrom most [] (straight items most) run

@@ -6,7 +6,7 @@ use Rattle.palm_base.specs.declared.bounds.TheConstants.{MOST_LEAF_ROWS}
 use Rattle.palm_base.specs.Table.{IsTable}
 use Rattle.palm_base.specs.Tree.{Tree, rows_of}
 use Rattle.palm_base.specs.Pass.{leaves_of, top, set_of, batch_tree}
-use Rattle.palm_base.specs.Lawful.{IsLawful}
+use Rattle.palm_base.specs.Lawful.{IsLawful, IsOrderly}
 use Rattle.palm_base.specs.Lows.{PrefixesHold, LowsAreKeys}
 use Rattle.palm_base.specs.declared.row.Row.{Row}
 use Rattle.palm_base.proofs.Batches.{batches_keep_rows}
@@ -28,7 +28,7 @@ use Rattle.palm_arena.proofs.Raised.{bare_length}
 use Rattle.palm_node.specs.declared.id.NodeId.{NodeId}
 use Rattle.palm_node.specs.declared.id.Piece.{Piece}
 use Rattle.palm_node.specs.declared.node.Node.{Node}
-use Rattle.palm_node.proofs.TopLevels.{IsOrderly, leaves_orderly, leaves_count}
+use Rattle.palm_node.proofs.TopLevels.{leaves_orderly, leaves_count}
 use Rattle.palm_tree.specs.BuiltLeaves.{AreLeaves}
 use Rattle.palm_tree.specs.TreeValue.{tree_of, HoldsTree}
 use Rattle.palm_tree.proofs.Values.{tree_reads}

@@ -21,7 +21,8 @@ pub record TreeState : Type 0 where
   pub shape : Shape
   pub moved : List NodeId
 
--- The tree of a node that was read so many levels above the leaves, and the empty one where nothing was.
+-- The tree of a node that was read so many levels above the leaves, and the empty one where nothing was. So a leaf with the row
+-- of 44, read 0 levels above, is (0, this row).
 abbrev pub tree_over : (n : ℕ) → Option (Subtree n) → Tree
 tree_over n None = (zero, [])
 tree_over n (Some root) = (n, root)
@@ -41,7 +42,8 @@ abbrev pub leaf_alone : NodeId → List Place
 leaf_alone id = with_place [] id (Holds (Leaf []))
 
 -- An arena holds a tree of so many rows: no batch is under way and nothing is lent, each live node is in the tree once,
--- the tree is lawful, and its lows are keys of prefixes.
+-- the tree is lawful, and its lows are keys of prefixes. So an arena of one place, with the leaf of 44 at 5, holds a tree of
+-- one row.
 pub record HoldsTree (arena : ArenaState) (shape : Shape) (rows : ℕ) : Type 0 where
   pub idle : arena.begun ≡ None
   pub none_lent : NoneLent arena.places

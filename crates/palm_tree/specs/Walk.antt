@@ -16,7 +16,7 @@ use Rattle.palm_arena.specs.Reads.{inner_in, child_ids}
 abbrev pub inner_text : InnerNode → List ℕ
 inner_text inner = codes "inner " ++ (decimal (length inner.children) ++ (flat_map separator_text inner.separators ++ codes "\n"))
 
--- The line of a node. Where there is none, nothing.
+-- The line of a node. Where there is none, nothing. So that of a leaf of 10 at 5 is "leaf 1 10 5".
 abbrev pub node_text : Option Node → List ℕ
 node_text None = []
 node_text (Some (Leaf rows)) = leaf_line rows
@@ -43,7 +43,7 @@ IsPrintable None = ⊥
 IsPrintable (Some (Leaf rows)) = Unit {0}
 IsPrintable (Some (Inner inner)) = AllByRecursion IsKey inner.separators
 
--- The same of so many levels.
+-- The same of so many levels. So two levels are, of a root over leaves with the separator of 20.
 abbrev pub ArePrintable : (NodeId → Option Node) → ℕ → List NodeId → Type 0
 ArePrintable nodes zero ids = Unit {0}
 ArePrintable nodes (suc n) ids = AllByRecursion (λ id. IsPrintable (nodes id)) ids × ArePrintable nodes n (ids_below nodes ids)

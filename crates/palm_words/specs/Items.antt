@@ -3,11 +3,12 @@ use Rattle.std.specs.Prelude.{ℕ, ◌==◌, ◌&&◌, Bool, false, if◌then◌
 use Rattle.std.specs.List.{list_any, before_first, after_first}
 use Rattle.std.specs.Str.{bytes_eq}
 
--- A text, as the list of its bytes.
+-- A text, as the list of its bytes. So "4a" is 52, 97.
 abbrev pub Text : Type 0
 Text = List ℕ
 
 -- What words say, one by one: an option with its NAME and its VALUE, or a mode word.
+-- So "--batch=4" says the option batch with 4, and "replay" a mode word.
 pub data Item : Type 0 where
   option : Text → Text → Item
   mode_word : Text → Item
@@ -16,7 +17,7 @@ pub data Item : Type 0 where
 abbrev pub is_among : Text → List Text → Bool
 is_among text texts = list_any (λ t. bytes_eq t text) texts
 
--- The word that ends the options.
+-- The word that ends the options. So it is the bytes 45, 45.
 abbrev pub two_dashes : Text
 two_dashes = codes "--"
 
@@ -25,7 +26,7 @@ abbrev pub begins_with_dash : Text → Bool
 begins_with_dash [] = false
 begins_with_dash (c ∷ cs) = c == 45
 
--- The byte `=`.
+-- The byte `=`. So 61 is it, and 45 isn't.
 abbrev pub is_equals_sign : ℕ → Bool
 is_equals_sign c = c == 61
 
@@ -42,10 +43,12 @@ abbrev pub names_option : List Text → Text → Bool
 names_option names word = bytes_eq (take 2 word) two_dashes && is_among (name_in word) names
 
 -- This item, and then those of the rest; none where the rest is refused.
+-- So "deck" as a mode word, and then no items, are this item alone.
 abbrev pub then_items : Item → Option (List Item) → Option (List Item)
 then_items item rest = option_map (λ items. item ∷ items) rest
 
 -- An option whose VALUE stands in its own word, or in the next one: then the rest begins with this name waiting for it.
+-- So that of "batch" with "4" is the option batch with 4 and then the rest, and without it the rest has "batch" waiting.
 abbrev pub with_value : Text → Option Text → (Option Text → Option (List Item)) → Option (List Item)
 with_value name (Some value) rest = then_items (option name value) (rest None)
 with_value name None rest = rest (Some name)

@@ -18,11 +18,11 @@ use Rattle.palm_words.specs.declared.words.WordsFault.TheVariants.{Usage, NoMemo
 
 -- ---- what there is
 
--- The modes, by their words.
+-- The modes, by their words. So "replay" stands for Replay, "deck" for Deck and "gen" for Gen.
 abbrev pub modes : List (Text × Mode)
 modes = (codes "replay", Replay) ∷ (codes "deck", Deck) ∷ (codes "gen", Gen) ∷ []
 
--- What the VALUEs of `dump` say.
+-- What the VALUEs of `dump` say. So "end" stands for AtEnd, and "all" for Always.
 abbrev pub dumps : List (Text × DumpWhen)
 dumps = (codes "none", Never) ∷ (codes "end", AtEnd) ∷ (codes "all", Always) ∷ []
 
@@ -49,7 +49,7 @@ options =
     ∷ (codes "calls", is_from_to 0 MOST_GENERATED_CALLS)
     ∷ []
 
--- The names of the options.
+-- The names of the options. So they are "workers", "batch", "window", "dump", "seed" and "calls".
 abbrev pub option_names : List Text
 option_names = map (λ o. o.0) options
 
@@ -62,6 +62,7 @@ at_most_one is_good (value ∷ []) = is_good value
 at_most_one is_good (value ∷ more ∷ rest) = false
 
 -- Each option stands at most once, with a VALUE that it may have. The VALUEs are given by the names.
+-- So they are with "4" for batch alone, and aren't with "4" twice, or with "0".
 abbrev pub are_good : (Text → List Text) → Bool
 are_good values = list_all (λ o. at_most_one o.1 (values o.0)) options
 
@@ -82,6 +83,7 @@ dump_or_never [] = Never
 dump_or_never (value ∷ rest) = unwrap_or (dump_named value) Never
 
 -- The settings by a mode and by VALUEs that are good, with the defaults of the options that don't stand.
+-- So those of Replay with "007" for window alone have the window 7, the batch 4,096 and 1 worker.
 abbrev pub settings : (Text → List Text) → Mode → Settings
 settings values mode = record {
   mode = mode;
@@ -94,6 +96,7 @@ settings values mode = record {
 }
 
 -- What mode words and the VALUEs of options set, or none where one of them isn't as it may be.
+-- So "deck" and "4" for batch set the mode Deck and the batch 4, and "deck", "gen" set nothing.
 abbrev pub set_by : List Text → (Text → List Text) → Option Settings
 set_by words values = option_and_then (λ mode. if are_good values then Some (settings values mode) else None) (one_mode words)
 
@@ -102,7 +105,7 @@ set_by words values = option_and_then (λ mode. if are_good values then Some (se
 abbrev pub settings_of : List Text → Option Settings
 settings_of words = option_and_then (λ items. set_by (mode_words items) (values_of items)) (items_from option_names None words)
 
--- Each number is between its bounds. A seed may be any that there is.
+-- Each number is between its bounds. A seed may be any that there is. So the batch 65,536 is, and 0 and 65,537 aren't.
 pub record AreWithin (s : Settings) : Type 0 where
   pub some_workers : 1 ≤ s.workers
   pub few_workers : s.workers ≤ MOST_WORKERS
@@ -112,7 +115,7 @@ pub record AreWithin (s : Settings) : Type 0 where
   pub few_window : s.window ≤ MOST_WINDOW
   pub few_calls : s.calls ≤ MOST_GENERATED_CALLS
 
--- What a fault is called.
+-- What a fault is called. So Usage is "usage", and NoMemory is "no memory".
 abbrev pub fault_text : WordsFault → List ℕ
 fault_text Usage = codes "usage"
 fault_text NoMemory = codes "no memory"
