@@ -3,6 +3,7 @@ use Rattle.std.specs.Prelude.{ℕ, nat_lt, nat_le, Bool, not, ◌&&◌, if◌the
 use Rattle.std.specs.List.{list_all}
 use Rattle.std.specs.Int.Digits.{number_from_digits}
 use Rattle.palm_base.specs.Prefix.{digits_in, is_no_digit}
+use Rattle.palm_base.specs.declared.amount.TheConstants.{MOST_RATE}
 use Rattle.palm_base.specs.declared.number.TheConstants.{MOST_NUMBER_DIGITS}
 
 -- The value of a field of digits. So that of "007" is 7.
@@ -21,6 +22,10 @@ number_of field = if is_number field then Some (value_of field) else None
 abbrev pub is_from_to : ℕ → ℕ → List ℕ → Bool
 is_from_to least most field = is_number field && nat_le least (value_of field) && nat_le (value_of field) most
 
--- The value of such a field. So that of "05" from 1 to 9 is 5, and "0" has none.
+-- A rate: a number field from 0 to MOST_RATE. So "007" is one, and "-7" and "1000000000000" aren't.
+abbrev pub is_rate : List ℕ → Bool
+is_rate field = is_from_to 0 MOST_RATE field
+
+-- The value of a number field from one number to another. So that of "05" from 1 to 9 is 5, and "0" has none.
 abbrev pub number_from_to : ℕ → ℕ → List ℕ → Option ℕ
 number_from_to least most field = if is_from_to least most field then Some (value_of field) else None

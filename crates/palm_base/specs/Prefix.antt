@@ -1,5 +1,5 @@
 -- Dialled prefixes: lists of 1 to 15 digits, their order, and how a text spells one.
-use Rattle.std.specs.Prelude.{ℕ, ◌-◌, ◌<◌, ◌≤◌, Bool, true, false, ◌&&◌, ◌||◌, ◌==◌, nat_lt, if◌then◌else◌, List, [], ◌∷◌, ◌++◌, length, map, take, position, Option, Some, None, Result, Ok, Err, codes, decimal}
+use Rattle.std.specs.Prelude.{ℕ, ◌-◌, ◌<◌, ◌≤◌, Bool, true, false, ◌&&◌, ◌||◌, ◌==◌, nat_lt, if◌then◌else◌, List, [], ◌∷◌, ◌++◌, length, map, take, position, Option, Some, None, Result, Ok, Err, is_ok, codes, decimal}
 use Rattle.std.specs.List.{AllByRecursion}
 use Rattle.palm_base.specs.declared.digits.TheConstants.{MOST_DIGITS}
 use Rattle.palm_base.specs.declared.digits.DigitsFault.{DigitsFault}
@@ -46,6 +46,10 @@ read_at None text = if nat_lt MOST_DIGITS (length text) then Err Long else Ok (d
 abbrev pub read_of : List ℕ → Result (List ℕ) DigitsFault
 read_of text =
     if length text == 0 then Err Empty else read_at (position is_no_digit (take MOST_DIGITS text)) text
+
+-- A text spells 1 to 15 digits: a prefix, or a dialled number. So "044" does, and "4a" doesn't.
+abbrev pub is_dialled : List ℕ → Bool
+is_dialled text = is_ok (read_of text)
 
 -- The text of a fault. So that of NotDigit 1 is "byte 1 is no digit".
 abbrev pub fault_text : DigitsFault → List ℕ

@@ -1,15 +1,14 @@
 -- Decks: which bytes are decks, what they say, and how a table is written as one.
-use Rattle.std.specs.Prelude.{ℕ, ◌+◌, ◌≡◌, ◌==◌, ◌&&◌, Bool, false, if◌then◌else◌, List, [], ◌∷◌, ◌++◌, length, take, drop, codes, Result, Ok, Err, is_ok}
+use Rattle.std.specs.Prelude.{ℕ, ◌+◌, ◌≡◌, ◌==◌, ◌&&◌, Bool, false, if◌then◌else◌, List, [], ◌∷◌, ◌++◌, length, take, drop, codes, Result, Ok, Err}
 use Rattle.std.specs.List.{flat_map}
 use Rattle.std.specs.Fmt.{decimal}
 use Rattle.std.specs.Result.{result_map_both}
 use Rattle.std.specs.Str.{bytes_eq}
 use Rattle.csv.specs.Reading.{default_config, records, strip_bom}
-use Rattle.palm_base.specs.Prefix.{read_of, digits_in}
-use Rattle.palm_base.specs.Numbers.{value_of, is_from_to}
+use Rattle.palm_base.specs.Prefix.{digits_in, is_dialled}
+use Rattle.palm_base.specs.Numbers.{value_of, is_rate}
 use Rattle.palm_base.specs.Text.{digits_text}
 use Rattle.palm_base.specs.History.{numbered}
-use Rattle.palm_base.specs.declared.amount.TheConstants.{MOST_RATE}
 use Rattle.palm_base.specs.declared.row.Row.{Row}
 use Rattle.palm_base.specs.declared.call.Call.{Call}
 use Rattle.palm_base.specs.declared.call.Call.TheVariants.{Set, Del}
@@ -45,23 +44,15 @@ abbrev pub is_header : Record → Bool
 is_header (op ∷ prefix ∷ rate ∷ []) = bytes_eq op (codes "op") && bytes_eq prefix (codes "prefix") && bytes_eq rate (codes "rate")
 is_header _ = false
 
--- 1 to 15 digits. So "044" is a prefix, and "4x" isn't.
-abbrev pub is_prefix : List ℕ → Bool
-is_prefix field = is_ok (read_of field)
-
--- A number from 0 to `MOST_RATE`. So "007" is a rate, and "1000000000000" isn't.
-abbrev pub is_rate : List ℕ → Bool
-is_rate field = is_from_to 0 MOST_RATE field
-
 -- The edit of a `set` with this prefix and rate. So "4x" and "-1" have the fault Prefix, and "4" and "-1" the fault Rate.
 abbrev pub set_in : List ℕ → List ℕ → Result Call DeckWhy
 set_in prefix rate =
-    if is_prefix prefix then (if is_rate rate then Ok (Set (digits_in prefix) (value_of rate)) else Err Rate) else Err Prefix
+    if is_dialled prefix then (if is_rate rate then Ok (Set (digits_in prefix) (value_of rate)) else Err Rate) else Err Prefix
 
 -- The edit of a `del` with this prefix and rate. So "4" and "" are the Del of 4, and "4" and "1" have the fault Rate.
 abbrev pub del_in : List ℕ → List ℕ → Result Call DeckWhy
 del_in prefix rate =
-    if is_prefix prefix then (if length rate == 0 then Ok (Del (digits_in prefix)) else Err Rate) else Err Prefix
+    if is_dialled prefix then (if length rate == 0 then Ok (Del (digits_in prefix)) else Err Rate) else Err Prefix
 
 -- The edit that three fields ask for. So "put", "4x" and "-1" have the fault Op.
 abbrev pub call_in : List ℕ → List ℕ → List ℕ → Result Call DeckWhy

@@ -1,9 +1,9 @@
 // Reading a deck: record by record, so that one record stands in memory beside the entries.
 ghost use Rattle.std.specs.Prelude.{◌≡◌, ◌≢◌, ◌+◌, ◌∷◌, [], if◌then◌else◌, length, Ok, Err, MatchOption, OnOk, IfOk, IfErr};
 ghost use Rattle.csv.specs.Records.{fields_of};
-ghost use Rattle.palm_base.specs.Numbers.{value_of};
-ghost use Rattle.palm_base.specs.Prefix.{digits_in};
-ghost use Rattle.palm_deck.specs.Deck.{without_mark as without, is_header as says_header, is_prefix, is_rate, set_in, del_in, call_in, call_by, call_at, deck_of, IsNext};
+ghost use Rattle.palm_base.specs.Numbers.{value_of, is_rate};
+ghost use Rattle.palm_base.specs.Prefix.{digits_in, is_dialled};
+ghost use Rattle.palm_deck.specs.Deck.{without_mark as without, is_header as says_header, set_in, del_in, call_in, call_by, call_at, deck_of, IsNext};
 
 use crate::deck::{Deck, DeckFault, DeckWhy};
 use csv::{ByteRecord, ReaderBuilder};
@@ -51,7 +51,7 @@ fn is_header(fields: &ByteRecord) -> bool
 }
 
 fn read_prefix(field: &[u8]) -> Result<Digits, DeckWhy>
-    ensures { result ≡ (if is_prefix field.now then Ok (digits_in field.now) else Err DeckWhy.Prefix) }
+    ensures { result ≡ (if is_dialled field.now then Ok (digits_in field.now) else Err DeckWhy.Prefix) }
 {
     Digits::read(field).ok().ok_or(DeckWhy::Prefix)
 }

@@ -5,7 +5,8 @@ use Rattle.std.specs.Fmt.{decimal}
 use Rattle.std.specs.Result.{result_map_both}
 use Rattle.std.proofs.lemmas.Bool.{le-ltb}
 use Rattle.std.proofs.lemmas.List.{length-append}
-use Rattle.palm_base.specs.Prefix.{IsPrefix}
+use Rattle.palm_base.specs.Numbers.{is_rate}
+use Rattle.palm_base.specs.Prefix.{IsPrefix, is_dialled}
 use Rattle.palm_base.specs.Text.{digits_text}
 use Rattle.palm_base.specs.declared.digits.TheConstants.{MOST_DIGITS}
 use Rattle.palm_base.specs.declared.amount.TheConstants.{MOST_RATE, MOST_LIMIT}
@@ -13,7 +14,7 @@ use Rattle.palm_base.specs.declared.call.Call.{Call}
 use Rattle.palm_base.specs.declared.call.Call.TheVariants.{Set, Del, Get, Rate, List as Listing}
 use Rattle.palm_base.proofs.Numerals.{IsDigitText, decimal_text, value_of-decimal, length-decimal, is_from_to-decimal, length-digits_text, prefix_text, digits_in-digits_text, read_of-digits_text}
 use Rattle.palm_script.specs.Laws.{LinesReadBack}
-use Rattle.palm_script.specs.Line.{fields, is_caller, is_rate, is_limit, is_dialled, set_of, del_of, get_of, rate_of, list_of, call_of, made_by, said_by, meaning_of}
+use Rattle.palm_script.specs.Line.{fields, is_caller, is_limit, set_of, del_of, get_of, rate_of, list_of, call_of, made_by, said_by, meaning_of}
 use Rattle.palm_script.specs.Spelling.{call_text, plain_text, IsSayableCall, IsSayable}
 use Rattle.palm_script.specs.declared.line.TheConstants.{MOST_CALLER, MOST_LINE}
 use Rattle.palm_script.specs.declared.line.Line.{Line}

@@ -1,12 +1,12 @@
 -- One line of a script: its fields, and what they say.
-use Rattle.std.specs.Prelude.{◌≤◌, ℕ, ◌==◌, nat_lt, Bool, ◌||◌, if◌then◌else◌, List, [], ◌∷◌, ◌++◌, length, filter, slice_index, codes, Result, Ok, Err, is_ok}
+use Rattle.std.specs.Prelude.{◌≤◌, ℕ, ◌==◌, nat_lt, Bool, ◌||◌, if◌then◌else◌, List, [], ◌∷◌, ◌++◌, length, filter, slice_index, codes, Result, Ok, Err}
 use Rattle.std.specs.List.{slice_split}
 use Rattle.std.specs.Fmt.{decimal}
 use Rattle.std.specs.Result.{result_map_both}
 use Rattle.std.specs.Str.{bytes_eq}
-use Rattle.palm_base.specs.Prefix.{read_of, digits_in}
-use Rattle.palm_base.specs.Numbers.{value_of, is_from_to}
-use Rattle.palm_base.specs.declared.amount.TheConstants.{MOST_RATE, MOST_LIMIT}
+use Rattle.palm_base.specs.Prefix.{digits_in, is_dialled}
+use Rattle.palm_base.specs.Numbers.{value_of, is_from_to, is_rate}
+use Rattle.palm_base.specs.declared.amount.TheConstants.{MOST_LIMIT}
 use Rattle.palm_base.specs.declared.call.Call.{Call}
 use Rattle.palm_base.specs.declared.call.Call.TheVariants.{Set, Del, Get, Rate, List as Listing}
 use Rattle.palm_script.specs.declared.line.TheConstants.{MOST_CALLER, MOST_LINE}
@@ -29,17 +29,9 @@ fields text = filter (λ part. nat_lt 0 (length part)) (slice_split is_blank tex
 abbrev pub is_caller : List ℕ → Bool
 is_caller field = is_from_to 0 MOST_CALLER field
 
--- A field is a rate. So "007" is, and "-7" isn't.
-abbrev pub is_rate : List ℕ → Bool
-is_rate field = is_from_to 0 MOST_RATE field
-
 -- A field is a limit: a number from 1 to 1,000. So "0010" is one, and "0" isn't.
 abbrev pub is_limit : List ℕ → Bool
 is_limit field = is_from_to 1 MOST_LIMIT field
-
--- 1 to 15 digits: a prefix, or a dialled number. So "044" is one, and "4a" isn't.
-abbrev pub is_dialled : List ℕ → Bool
-is_dialled field = is_ok (read_of field)
 
 -- The call of good arguments, or the fault of the leftmost bad one. Each argument is given by whether it is good, and by
 -- its fault if it isn't. So where a prefix and then a rate are both bad, the fault is Prefix.

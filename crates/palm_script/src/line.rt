@@ -1,9 +1,9 @@
 // What a line of a script says, and what may be wrong with one. The numbers of its faults are the codes that the program reports.
 ghost use Rattle.std.specs.Prelude.{◌≡◌, ◌≢◌, ◌≤◌, ◌<◌, ◌∷◌, [], if◌then◌else◌, Ok, Err, length, not, position, MatchOption, IfSome, IfOk, IfErr};
 ghost use Rattle.std.specs.List.{position_or_len};
-ghost use Rattle.palm_base.specs.Prefix.{digits_in};
-ghost use Rattle.palm_base.specs.Numbers.{value_of, is_from_to};
-ghost use Rattle.palm_script.specs.Line.{is_blank, fields, is_caller, is_rate, is_limit, is_dialled, set_of, del_of, get_of, rate_of, list_of, call_of, made_by, alone, asked_by, meaning_of, line_of, LineFits};
+ghost use Rattle.palm_base.specs.Prefix.{digits_in, is_dialled};
+ghost use Rattle.palm_base.specs.Numbers.{value_of, is_from_to, is_rate};
+ghost use Rattle.palm_script.specs.Line.{is_blank, fields, is_caller, is_limit, set_of, del_of, get_of, rate_of, list_of, call_of, made_by, alone, asked_by, meaning_of, line_of, LineFits};
 
 use palm_base::{Amount, Call, Digits, Limit, MOST_LIMIT, number_from_to};
 use std::error::Error;
