@@ -57,6 +57,13 @@ pub fn each_mut<R: Threads + Sync, J: Job + Send, G: Gate + Sync>(
     let work = |i: usize, item: &mut Option<J>|
         requires { (0 < size) × Holds J.ready item.now }
         ensures { Relates J.ran item.entry.now item.exit.now }
-    { run_item(item, (i / size).min(63) as u32, i as u64, gate) };
+    {
+        run_item(
+            item,
+            (i / size).min(MOST_WORKERS as usize - 1) as u32,
+            i as u64,
+            gate,
+        )
+    };
     thread::for_each_mut(rt, items, workers as usize, &work);
 }
