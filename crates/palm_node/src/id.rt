@@ -7,11 +7,12 @@ pub struct NodeId {
     pub place: usize,
 }
 
-/// A node that stands for part of an old one.
+/// One of the nodes that stand for an old one, as the level above is told of it.
 #[derive(Clone, Copy, Debug, PartialEq, Eq)]
 pub struct Piece {
-    /// The packed key at which its range begins, 0 for a first child.
+    /// The packed key at which its range begins: the separator to its left in the node above, and 0 of a first child, which has
+    /// none.
     pub low: u64,
-    /// Where it is.
+    /// Its place in the arena.
     pub id: NodeId,
 }

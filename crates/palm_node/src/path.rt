@@ -3,10 +3,11 @@ ghost use Rattle.std.specs.Prelude.{◌≡◌, ◌<◌, ◌≤◌, ◌++◌, ◌
 
 use crate::id::NodeId;
 use arrayvec::ArrayVec;
+use palm_base::MOST_LEVELS;
 use std::marker::Model;
 
-/// The greatest number of steps of a path.
-pub const MOST_PATH: usize = 16;
+/// The greatest number of steps of a path: one from each level to the next.
+pub const MOST_PATH: usize = MOST_LEVELS - 1;
 
 /// A way down from the root: the inner nodes passed, and the place of the child taken at each. Contracts see the list
 /// of these pairs.
