@@ -1,5 +1,5 @@
 -- The nodes over the pieces of a level, put into an arena one after another.
-use Rattle.std.proofs.Common.{◌≡◌, ℕ, suc, ◌+◌, ◌<◌, ◌≤◌, cond, List, [], ◌∷◌, ◌++◌, length, map, take, drop, Option, refl, sym, ap, subst, arith, ◌∙◌, append_assoc}
+use Rattle.std.proofs.Common.{◌≡◌, ℕ, suc, ◌+◌, ◌<◌, ◌≤◌, cond, List, [], ◌∷◌, ◌++◌, length, map, take, drop, get_or, Option, refl, sym, ap, subst, arith, ◌∙◌, append_assoc}
 use Rattle.std.specs.Prelude.{◌==◌}
 use Rattle.std.specs.List.Sorted.{IsStrictlyIncreasing}
 use Rattle.palm_base.specs.Cut.{piece_count, piece_size}
@@ -98,6 +98,11 @@ pub level_parts : (level : List Piece) (old : NodeId → Option Node) (i : ℕ) 
 level_parts level old i new rest made part size far less sized is =
     let fits : HasFromTo 1 MOST_CHILDREN part = rw (is, sized) (next_fits MOST_CHILDREN (length level) i rest less far.cut).1 in
     (fits, rw is (rise_increasing (later_lows (take size rest)) (later_take size rest far.rising)))
+
+-- The low of the first of pieces.
+pub first_low_is : (pieces : List Piece) (d : Piece) → 1 ≤ length pieces → (get_or pieces 0 d).low ≡ first_low (λ piece. piece.low) pieces
+first_low_is [] d some = absurd (omega arith)
+first_low_is (piece ∷ pieces) d some = refl
 
 -- One node more, over the next piece.
 pub taken_next : (level : List Piece) (old : NodeId → Option Node) (i : ℕ) (new later : NodeId → Option Node) (rest made part : List Piece) (size low : ℕ) (id : NodeId) → TakenSoFar level old i new rest made

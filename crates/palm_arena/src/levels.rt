@@ -1,7 +1,6 @@
 // The levels of nodes over pieces, up to the one that is the root.
 ghost use Rattle.std.specs.Prelude.{◌≡◌, ◌+◌, ◌<◌, ◌≤◌, ◌==◌, if◌then◌else◌, List, length, IfOk, IsSome};
 ghost use Rattle.palm_base.specs.Cut.{piece_count};
-ghost use Rattle.palm_base.specs.Pass.{first_low};
 ghost use Rattle.palm_node.specs.InnerNode.{Rise, later_lows};
 ghost use Rattle.palm_arena.specs.ArenaState.{NoneLent};
 ghost use Rattle.palm_arena.specs.Reads.{map_of};
@@ -18,14 +17,12 @@ use palm_node::{Inner, Node, Piece, PieceList, piece_size, pieces};
 use std::alloc::Global;
 use std::sync::ledger::Ledger;
 
-// The low of the next piece of a level: the first one's is 0, and a later one has that of its first child.
-fn next_low(made: &PieceList, part: &[Piece]) -> u64
-    ensures { result ≡ (if length made.now == 0 then 0 else first_low (λ piece. piece.low) part.now) }
+/// The low of the next node of a level, where those before it are listed and its keys begin at `own`: 0 of the first, which has
+/// no separator to its left, and `own` of a later one.
+pub fn next_low(made: &PieceList, own: u64) -> u64
+    ensures { result ≡ (if length made.now == 0 then 0 else own) }
 {
-    match part.first() {
-        Some(piece) if !made.is_empty() => piece.low,
-        _ => 0,
-    }
+    if made.is_empty() { 0 } else { own }
 }
 
 // Puts the nodes into an arena that stand over the pieces of a level, and lists them. It counts one step for each of them.
@@ -48,7 +45,7 @@ fn take_level<L: Ledger>(
     let mut rest = level;
     for i in 0..pieces(MOST_CHILDREN, level.len()) {
         let (part, later) = rest.split_at(piece_size(MOST_CHILDREN, level.len(), i));
-        let low = next_low(&made, part);
+        let low = next_low(&made, part[0].low);
         let id = arena.take(Node::Inner(Inner::over(part)), steps)?;
         made.push(Piece { low, id })?;
         rest = later;
@@ -58,7 +55,7 @@ fn take_level<L: Ledger>(
 
 /// Puts the nodes into an arena of the levels over a level, up to one that is the root, and gives the shape of the tree that they
 /// make. The level stands so many levels above the leaves, and one piece alone is the root itself. Of 300 pieces it puts 19
-/// nodes, 2 over these, and the root over both.
+/// nodes, 2 over these, and the root over both. It counts one step for each node that it puts: 22 of 300 pieces, and none of one.
 ///
 /// `NoMemory` where room was refused. What was put stays then, so the batch has to be rolled back.
 pub fn raise<L: Ledger>(

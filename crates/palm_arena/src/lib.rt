@@ -14,6 +14,6 @@ mod tests;
 
 pub use arena::Arena;
 pub use lease::Lease;
-pub use levels::raise;
+pub use levels::{next_low, raise};
 pub use place::Place;
 pub use shape::Shape;

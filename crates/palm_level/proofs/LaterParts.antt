@@ -12,6 +12,7 @@ use Rattle.palm_level.specs.Works.{later_over, first_node}
 use Rattle.palm_level.specs.declared.node_work.LaterNode.{LaterNode}
 use Rattle.palm_base.proofs.CutSteps.{pieces_left, IsCutTo, left_first, left_next, left_last, cut_first, cut_next, next_fits}
 use Rattle.palm_node.proofs.RisingLows.{later_take, later_drop}
+use Rattle.palm_arena.proofs.TakenLevels.{first_low_is}
 
 -- The parts before the i-th are made, and the rest of the children is left.
 pub record PartsSoFar (children : List Piece) (i : ℕ) (rest : List Piece) (later : List LaterNode) : Type 0 where
@@ -61,10 +62,6 @@ pub part_fits : (children rest : List Piece) (later : List LaterNode) (i size : 
 part_fits children rest later i size far less is =
     let fits = next_fits MOST_CHILDREN (length children) i rest less far.cut-to in
     rw is (fits.0, fits.1, later_take (piece_size MOST_CHILDREN (length children) i) rest far.rising)
-
-first_low_is : (pieces : List Piece) (d : Piece) → 1 ≤ length pieces → (get_or pieces 0 d).low ≡ first_low (λ piece. piece.low) pieces
-first_low_is [] d some = absurd (omega arith)
-first_low_is (piece ∷ pieces) d some = refl
 
 -- One part more is made.
 pub parts_next : (children rest part after : List Piece) (later : List LaterNode) (i size : ℕ) (d : Piece) (node : InnerNode) → PartsSoFar children i rest later → i < piece_count MOST_CHILDREN (length children)

@@ -6,7 +6,7 @@
 //     rows     1 .. 16 | 17 .. 32 | ..  | 286 .. 300      19 leaves of 16 or 15 rows
 //     level 1  leaves 1 .. 10        | leaves 11 .. 19     2 nodes of 10 and 9 children
 //     level 2  both of them                                the root
-ghost use Rattle.std.specs.Prelude.{◌≡◌, ◌<◌, ◌==◌, if◌then◌else◌, [], length, map, IfOk, OnOk, None, IsSome};
+ghost use Rattle.std.specs.Prelude.{◌≡◌, ◌<◌, [], length, map, IfOk, OnOk, None, IsSome};
 ghost use Rattle.std.proofs.Common.{zero};
 ghost use Rattle.palm_base.specs.Table.{row_key, IsTable};
 ghost use Rattle.palm_base.specs.Lows.{PrefixesHold};
@@ -18,7 +18,7 @@ ghost use Rattle.palm_tree.specs.BuiltLeaves.{AreLeaves};
 ghost use Rattle.palm_tree.specs.TreeValue.{tree_in, tree_of};
 
 use crate::tree::Tree;
-use palm_arena::{Arena, Shape, raise};
+use palm_arena::{Arena, Shape, next_low, raise};
 use palm_base::{MOST_LEAF_ROWS, NoMemory, Row, RowList, Steps};
 use palm_node::{Leaf, Node, Piece, PieceList, piece_size, pieces};
 use std::alloc::Global;
@@ -34,13 +34,6 @@ fn first_key(leaf: &Leaf) -> u64
         return 0;
     }
     leaf.row(0).prefix.key()
-}
-
-// The low of the next leaf: the first one's is 0, and a later one has its own.
-fn next_low(made: &PieceList, own: u64) -> u64
-    ensures { result ≡ (if length made.now == 0 then 0 else own) }
-{
-    if made.is_empty() { 0 } else { own }
 }
 
 // Puts the leaves into an arena that rows are cut into, and lists them.
