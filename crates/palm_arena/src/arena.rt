@@ -203,7 +203,8 @@ impl Arena {
         Ok(())
     }
 
-    /// Ends the batch, whose changes stay. It takes no memory, and as long as the batch has touched places.
+    /// Ends the batch, whose changes stay. It takes no memory, so that a batch that came so far isn't refused, and its time
+    /// grows with the places that the batch touched, and not with the arena.
     pub fn commit(&mut self)
         requires under_way { IsSome self.old.begun }
         requires none_lent { NoneLent self.old.places }
@@ -214,8 +215,9 @@ impl Arena {
         self.begun = None;
     }
 
-    /// Ends the batch and takes its changes back: each id has the node that it had at the begin, and the ids that the batch
-    /// took are free. It takes no memory, and as long as the batch has touched places.
+    /// Ends the batch and takes its changes back: each id has the node that it had at the begin, the ids that the batch took
+    /// are free, and none counts as moved. It takes no memory, since it follows a refusal of it, and its time grows with the
+    /// places that the batch touched, and not with the arena.
     pub fn rollback(&mut self)
         requires under_way { IsSome self.old.begun }
         requires none_lent { NoneLent self.old.places }

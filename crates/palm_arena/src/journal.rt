@@ -89,7 +89,9 @@ impl Journal {
         Ok(())
     }
 
-    /// An id that is free, and was when the batch began. `None` where the one that was tried is in use.
+    /// The id to use again next, which isn't offered any more: it is free, and was when the batch began. `None` where no id
+    /// is offered, or where the one that was offered last is in use. Ids that a batch freed come before those of earlier
+    /// ones, and among themselves in the order in which the batch touched them first.
     pub(crate) fn vacant(&mut self, places: &[Place]) -> Option<NodeId>
         requires { length self.old.touched.items ≡ length places.now }
         ensures inside { IfSome result (λ id. id.place < length places.now) }
