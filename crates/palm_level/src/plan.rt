@@ -175,6 +175,7 @@ fn plan_room(
     let Node::Inner(inner) = arena.read(node) else {
         unreachable!()
     };
+    // The contract of `len` says that the node is within its bounds, as `make_room` requires.
     let _ = inner.len();
     Ok(Some(make_room(alloc, inner, changes)?))
 }

@@ -54,6 +54,7 @@ fn find_left(
     let Node::Inner(inner) = arena.read(shape.root) else {
         unreachable!()
     };
+    // The contract of `len` says that the node is within its bounds, as `children_after` requires.
     let _ = inner.len();
     let left = children_after(alloc, inner, changes.nodes.as_slice())?;
     Ok(left)
