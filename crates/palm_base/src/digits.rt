@@ -52,7 +52,7 @@ pub enum DigitsFault {
     Empty,
     /// The first `MOST_DIGITS` bytes are digits, and there are more bytes.
     Long,
-    /// The byte at this place, counted from 0 and at most 14, is the first that is no digit.
+    /// The byte at this place, counted from 0 and below `MOST_DIGITS`, is the first that is no digit.
     NotDigit(u32),
 }
 
@@ -89,8 +89,8 @@ fn are_digits(word: u64, count: u32) -> bool
 impl Digits {
     /// The prefix that a text spells.
     ///
-    /// `Empty` exactly where the text is empty, `NotDigit` exactly where one of the first 15 bytes is no digit, with
-    /// the place of the first such byte, and `Long` exactly where the first 15 bytes are digits and more follow.
+    /// `Empty` exactly where the text is empty, `NotDigit` exactly where one of the first `MOST_DIGITS` bytes is no digit,
+    /// with the place of the first such byte, and `Long` exactly where all of these are digits and more follow.
     pub fn read(text: &[u8]) -> Result<Digits, DigitsFault>
         ensures { result ≡ read_of text.now }
     {

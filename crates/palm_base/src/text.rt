@@ -57,12 +57,12 @@ pub fn append_digits(digits: &Digits, out: &mut Vec<u8>) -> Result<(), NoMemory>
     Ok(())
 }
 
-/// Appends a word, and a rate after it.
-pub fn append_rate(word: &[u8], rate: &Amount, out: &mut Vec<u8>) -> Result<(), NoMemory>
-    ensures ok { OnOk result (out.new.items ≡ out.old.items ++ (word.now ++ decimal rate.now)) }
+/// Appends what leads in to a rate, as `was `, and the rate after it.
+pub fn append_rate(lead: &[u8], rate: &Amount, out: &mut Vec<u8>) -> Result<(), NoMemory>
+    ensures ok { OnOk result (out.new.items ≡ out.old.items ++ (lead.now ++ decimal rate.now)) }
     ensures kept { Extends out.old.items out.new.items }
 {
-    append(word, out)?;
+    append(lead, out)?;
     append_number(rate.get(), out)
 }
 
