@@ -1,12 +1,14 @@
 // Reading a deck: record by record, so that one record stands in memory beside the entries.
-ghost use Rattle.std.specs.Prelude.{◌≡◌, ◌≢◌, ◌+◌, ◌∷◌, [], if◌then◌else◌, length, Ok, Err, MatchOption, OnOk, IfOk, IfErr};
+ghost use Rattle.std.specs.Prelude.{◌≡◌, ◌≢◌, ◌+◌, ◌∷◌, [], if◌then◌else◌, true, length, Some, Ok, Err, MatchOption, OnOk, IfOk, IfErr};
+ghost use Rattle.csv.specs.Reading.{ReadRecord, Ready, reader_trim, took_first};
 ghost use Rattle.csv.specs.Records.{fields_of};
+ghost use Rattle.csv.specs.declared.reader.Trim.TheVariants as trims;
 ghost use Rattle.palm_base.specs.Numbers.{value_of, is_rate};
 ghost use Rattle.palm_base.specs.Prefix.{digits_in, is_dialled};
 ghost use Rattle.palm_deck.specs.Deck.{without_mark as without, is_header as says_header, set_in, del_in, call_in, call_by, call_at, deck_of, IsNext};
 
 use crate::deck::{Deck, DeckFault, DeckWhy};
-use csv::{ByteRecord, ReaderBuilder};
+use csv::{ByteRecord, Reader, ReaderBuilder};
 use palm_base::{Amount, Call, Digits, Entry};
 use std::alloc::Global;
 
@@ -126,6 +128,19 @@ fn add_edit(entries: &mut Vec<Entry>, fields: &ByteRecord) -> Result<(), DeckFau
     Ok(())
 }
 
+// Reads the next record into `fields`, where there is one. The reader's bytes stand in memory, so that it has no error but
+// refused memory.
+fn read_record(reader: &mut Reader<&[u8]>, fields: &mut ByteRecord) -> Result<bool, DeckFault>
+    ensures read { IfOk result (λ found. (reader_trim reader.old ≡ trims.None) → Ready reader.old → ReadRecord (λ s. Some s.now) reader.old reader.new found (fields_of fields.new)) }
+    ensures first { (reader_trim reader.old ≡ trims.None) → OnOk result (took_first reader.new ≡ true) }
+    ensures err { IfErr result (λ fault. fault ≡ DeckFault.NoMemory) }
+{
+    match reader.read_byte_record(fields) {
+        Ok(found) => Ok(found),
+        Err(_) => Err(DeckFault::NoMemory),
+    }
+}
+
 /// The deck that bytes hold, or its first fault, exactly as `deck_of` says.
 ///
 /// Beside these there is only `NoMemory`, which leaves nothing behind.
@@ -133,28 +148,17 @@ pub fn read_deck(alloc: Global, bytes: &[u8]) -> Result<Deck, DeckFault>
     ensures ok { IfOk result (λ deck. deck_of bytes.now ≡ Ok deck) }
     ensures err { IfErr result (λ fault. fault ≢ DeckFault.NoMemory → deck_of bytes.now ≡ Err fault) }
 {
-    let reader = ReaderBuilder::new()
+    let mut reader = ReaderBuilder::new()
         .has_headers(false)
         .flexible(true)
         .from_reader(alloc, without_mark(bytes));
+    let mut fields = ByteRecord::new(alloc);
+    if !read_record(&mut reader, &mut fields)? || !is_header(&fields) {
+        return Err(NO_HEADER);
+    }
     let mut entries = Vec::new(alloc);
-    let mut headed = false;
-    for fields in reader.into_byte_records() {
-        let Ok(fields) = fields else {
-            return Err(DeckFault::NoMemory);
-        };
-        if headed {
-            add_edit(&mut entries, &fields)?;
-        } else {
-            if !is_header(&fields) {
-                return Err(NO_HEADER);
-            }
-            headed = true;
-        }
+    while read_record(&mut reader, &mut fields)? {
+        add_edit(&mut entries, &fields)?;
     }
-    if headed {
-        Ok(Deck::from_vec(entries))
-    } else {
-        Err(NO_HEADER)
-    }
+    Ok(Deck::from_vec(entries))
 }
