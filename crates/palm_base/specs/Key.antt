@@ -15,7 +15,7 @@ packed (suc k) (d ∷ digits) = d * 16 ^ k + packed k digits
 abbrev pub key : List ℕ → ℕ
 key digits = packed 15 digits * 16 + length digits
 
--- The n groups of a word from the group numbered k - 1 down.
+-- The n groups of a word from the group numbered k - 1 down. So the two of 0x44 from the group numbered 1 down are 4, 4.
 abbrev pub groups : ℕ → ℕ → ℕ → List ℕ
 groups zero k word = []
 groups (suc n) zero word = []

@@ -29,7 +29,7 @@ comes_before [] (e ∷ others) = true
 comes_before (d ∷ digits) [] = false
 comes_before (d ∷ digits) (e ∷ others) = nat_lt d e || (d == e && comes_before digits others)
 
--- The byte isn't one of '0' to '9'.
+-- The byte isn't one of '0' to '9'. So that of "a" isn't, and that of "7" is.
 abbrev pub is_no_digit : ℕ → Bool
 is_no_digit b = nat_lt b 48 || nat_lt 57 b
 
@@ -37,7 +37,8 @@ is_no_digit b = nat_lt b 48 || nat_lt 57 b
 abbrev pub digits_in : List ℕ → List ℕ
 digits_in text = map (λ b. b - 48) text
 
--- What a text that isn't empty spells, where the first of its first 15 bytes that is no digit stands at this place.
+-- What a text that isn't empty spells, where the first of its first 15 bytes that is no digit stands at this place. So of
+-- "4a" with the place 1 it is the fault NotDigit 1, and of "44" with none it is 4, 4.
 abbrev pub read_at : Option ℕ → List ℕ → Result (List ℕ) DigitsFault
 read_at (Some place) text = Err (NotDigit place)
 read_at None text = if nat_lt MOST_DIGITS (length text) then Err Long else Ok (digits_in text)

@@ -72,6 +72,7 @@ IsHeadOf changes pieces = (first : Change) × (more : List Change) × (changes �
 abbrev pub HasPut : ℕ → ℕ → ℕ → Type 0
 HasPut count before after = ((count ≡ 0) × (after ≤ before + 1)) ⊎ HasRaised count before after
 
--- What is left of changes within n are no more pieces than a node's children and n more, and n isn't 0.
+-- What is left of changes within n are no more pieces than a node's children and n more, and n isn't 0. So 20 pieces are few
+-- within 4, and not within 3.
 abbrev pub IsFew : ℕ → Option (List Piece) → Type 0
 IsFew n left = MatchOption left (Unit {0}) (λ level. (1 ≤ n) × (length level ≤ MOST_CHILDREN + n))
