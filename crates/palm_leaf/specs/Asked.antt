@@ -1,5 +1,5 @@
 -- Parts of a leaf with room for their answers.
-use Rattle.std.specs.Prelude.{◌≡◌, ℕ, ◌≤◌, Bool, true, false, List, [], Option, vec_capacity}
+use Rattle.std.specs.Prelude.{◌≡◌, ℕ, ◌≤◌, Bool, true, false, List, [], Option, count_by, vec_capacity}
 use Rattle.std.specs.List.{list_all, list_any}
 use Rattle.palm_base.specs.declared.row.Row.{Row}
 use Rattle.palm_route.specs.declared.part.Ask.{Ask}
@@ -18,6 +18,13 @@ is_edit ask.Del = true
 is_edit ask.Look = false
 is_edit (ask.List from to limit) = false
 
+-- The ask is a Set, the only one that can add a row. So a Set is one, and a Del isn't.
+abbrev pub is_set : Ask → Bool
+is_set (ask.Set rate) = true
+is_set ask.Del = false
+is_set ask.Look = false
+is_set (ask.List from to limit) = false
+
 -- The ask is a look-up. So a look-up is one, and a List isn't.
 abbrev pub is_look : Ask → Bool
 is_look (ask.Set rate) = false
@@ -32,6 +39,10 @@ all_look parts = list_all (λ part. is_look part.ask) parts
 -- One of the parts is an edit. So it is of a look-up and a Del, and not of two look-ups.
 abbrev pub has_edit : List Part → Bool
 has_edit parts = list_any (λ part. is_edit part.ask) parts
+
+-- How many of the parts are Sets, and so how many rows they add at most. So of a Set, a Del and a Set there are two.
+abbrev pub set_count : List Part → ℕ
+set_count parts = count_by (λ part. is_set part.ask) parts
 
 -- The answer to an ask that an old rate and found rows make: the rows where it is a List's, and else the rate.
 -- So of the old rate 120 and the found row 44 90, a look-up's is 120, and a List's is the row 44 90.

@@ -11,14 +11,14 @@ use Rattle.palm_node.specs.declared.node.Node.TheVariants.{Leaf}
 use Rattle.palm_route.specs.Edits.{edits_of}
 use Rattle.palm_route.specs.declared.part.Part.{Part}
 use Rattle.palm_leaf.specs.Answers.{answers_in, rows_in_node}
-use Rattle.palm_leaf.specs.Asked.{all_look, answered, part_of, IsOpen}
+use Rattle.palm_leaf.specs.Asked.{all_look, set_count, answered, part_of, IsOpen}
 use Rattle.palm_leaf.specs.declared.answer.PartAnswer.{PartAnswer}
 use Rattle.palm_leaf.specs.declared.leaf_work.NewLeaf.{NewLeaf}
 use Rattle.palm_leaf.specs.declared.leaf_work.LeafPlan.{LeafPlan}
 use Rattle.palm_leaf.specs.declared.leaf_work.LeafWork.{LeafWork}
 
--- What becomes of a leaf that is left with these rows: where there are some, and fewer than `least`, it is removed and they
--- are loose, and else they are cut. So 7 rows are loose for the least 8, and a leaf of them for the least 0.
+-- What becomes of a leaf that is left with these rows: where there are some rows, but fewer than `least`, it is removed and
+-- they are loose, and else they are cut. So 7 rows are loose for the least 8, and a leaf of them for the least 0.
 abbrev pub leaf_left : ℕ → ℕ → List Row → Outcome zero
 leaf_left least low rows =
     let leaves : Outcome zero = record { pieces = leaves_of low rows; loose = [] } in
@@ -44,17 +44,23 @@ outcome_of_plan first plan = outcome_shown plan.kept plan.low first (map low_and
 abbrev pub parts_of_plan : LeafPlan → List Part
 parts_of_plan plan = map part_of plan.asked.items
 
--- A plan before the work: nothing is listed yet, and there is room for all that may come of a leaf of so many rows. Where it
--- is only looked at, it stands on, and needs no room for rows.
--- So one of Set 44 90 for a leaf of 16 rows has room for 17 rows and for one later leaf.
+-- A plan before the work: nothing is listed yet, and there is room for all that may come of a leaf of so many rows, to which
+-- only a Set can add one. Where it is only looked at, it stands on, and needs no room for rows.
+-- So one of Set 44 90 and a look-up for a leaf of 16 rows has room for 17 rows and for one later leaf.
 pub record IsPlan (held : ℕ) (plan : LeafPlan) : Type 0 where
   pub no_rows : plan.rows.items ≡ []
   pub no_later : plan.later.items ≡ []
-  pub row_room : plan.looks ≡ false → held + vec_len plan.asked ≤ vec_capacity plan.rows
+  pub row_room : plan.looks ≡ false → held + set_count (parts_of_plan plan) ≤ vec_capacity plan.rows
   pub looks : plan.looks ≡ true → (all_look (parts_of_plan plan) ≡ true) × (0 < held) × (plan.least ≤ held)
-  pub later_room : piece_count MOST_LEAF_ROWS (held + vec_len plan.asked) ≤ vec_capacity plan.later + 1
+  pub later_room : piece_count MOST_LEAF_ROWS (held + set_count (parts_of_plan plan)) ≤ vec_capacity plan.later + 1
   pub not_kept : plan.kept ≡ false
-  pub waits : AllByRecursion (IsOpen (held + vec_len plan.asked)) plan.asked.items
+  pub waits : AllByRecursion (IsOpen (held + set_count (parts_of_plan plan))) plan.asked.items
+
+-- A plan takes room for `most` rows at most: for those of its leaf, and for those that each of its parts may find.
+-- So one with room for 17 rows, whose only part is a List with room for 16, takes at most 17, and not 16.
+pub record TakesAtMost (most : ℕ) (plan : LeafPlan) : Type 0 where
+  pub rows : vec_capacity plan.rows ≤ most
+  pub found : AllByRecursion (λ asked. vec_capacity asked.found ≤ most) plan.asked.items
 
 -- The parts of a plan with the answers that they were given, in their order.
 -- So after Set 44 90 and a look-up of 44 on no rows they are nothing and then 90.
@@ -90,7 +96,7 @@ pub record IsResolved (rows : List Row) (before after : LeafPlan) : Type 0 where
   pub answers : answers_of_plan after ≡ answers_in rows (parts_of_plan before)
   pub rows-are : after.rows.items ≡ after_all rows (edits_of (parts_of_plan before))
   pub table : IsTable after.rows.items
-  pub few : vec_len after.rows ≤ length rows + vec_len before.asked
+  pub few : vec_len after.rows ≤ length rows + set_count (parts_of_plan before)
   pub path : after.path ≡ before.path
   pub low : after.low ≡ before.low
   pub least : after.least ≡ before.least

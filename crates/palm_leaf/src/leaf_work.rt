@@ -30,7 +30,7 @@ pub struct LeafPlan<'a> {
     pub path: &'a Path,
     /// The leaf's low, as its parent has written it.
     pub low: u64,
-    /// With fewer rows than this, but some, the leaf is removed.
+    /// With some rows, but fewer than this, the leaf is removed.
     pub least: usize,
     /// The parts, in the order of their arrival.
     pub asked: Vec<Asked>,
@@ -110,6 +110,7 @@ pub fn look_parts(node: &Node, plan: &mut LeafPlan<'_>)
     let Node::Leaf(leaf) = node else {
         unreachable!()
     };
+    // Its contract says that the leaf is narrow, which `few` promises.
     let _ = leaf.len();
     look_all(leaf, &mut plan.asked);
 }

@@ -91,9 +91,9 @@ fn work_leaves<R: Threads + Sync, G: Gate + Sync, L: Ledger>(
 }
 
 /// Does the leaves of a pass: each touched leaf's parts are resolved over its rows in the order of their arrival, each part is
-/// answered, and the rows that are left are cut into leaves. A leaf below the root that is left with too few rows is removed,
-/// and its rows are loose; one that is left with none is removed. The parts of a leaf are answered in the order of their
-/// arrival, the leaves from left to right.
+/// answered, and the rows that are left are cut into leaves. A leaf below the root that is left with some rows, but fewer than
+/// `LEAST_LEAF_ROWS`, is removed, and its rows are loose; one that is left with none is removed. The parts of a leaf are
+/// answered in the order of their arrival, the leaves from left to right.
 ///
 /// The leaves are worked on by at most `workers` workers beside each other. It counts a step for each leaf that it lends, and
 /// one for each leaf that it takes. `NoMemory` where memory was refused: no leaf is lent then, and what the batch under way

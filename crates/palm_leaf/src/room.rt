@@ -1,10 +1,10 @@
 // Room for all that may come of a leaf, made before the leaves are worked on, so that the work can't fail.
-ghost use Rattle.std.specs.Prelude.{◌≡◌, ◌<◌, true, false, ◌≤◌, ◌+◌, ◌==◌, if◌then◌else◌, map, IfOk};
+ghost use Rattle.std.specs.Prelude.{◌≡◌, ◌<◌, true, false, ◌≤◌, ◌+◌, ◌==◌, if◌then◌else◌, map, IfOk, vec_capacity};
 ghost use Rattle.std.specs.List.{AllByRecursion};
 ghost use Rattle.palm_base.specs.declared.bounds.TheConstants.{MOST_LEAF_ROWS};
-ghost use Rattle.palm_leaf.specs.Asked.{all_look, part_of, HasRoom};
+ghost use Rattle.palm_leaf.specs.Asked.{all_look, set_count, part_of, HasRoom};
 ghost use Rattle.palm_leaf.specs.Routed.{HasKey, written_low};
-ghost use Rattle.palm_leaf.specs.Worked.{IsPlan, parts_of_plan};
+ghost use Rattle.palm_leaf.specs.Worked.{IsPlan, TakesAtMost, parts_of_plan};
 
 use crate::leaf_work::LeafPlan;
 use crate::rows::{Asked, all_look};
@@ -17,6 +17,7 @@ use std::alloc::Global;
 fn ask(alloc: Global, part: &Part, most: usize) -> Result<Asked, NoMemory>
     ensures part { IfOk result (λ asked. asked.part ≡ part.now) }
     ensures room { IfOk result (λ asked. HasRoom most asked) }
+    ensures no_more { IfOk result (λ asked. vec_capacity asked.found ≤ most) }
 {
     let found = match &part.ask {
         Ask::List { limit, .. } => Vec::with_capacity(alloc, (limit.get() as usize).min(most))?,
@@ -33,6 +34,7 @@ fn ask(alloc: Global, part: &Part, most: usize) -> Result<Asked, NoMemory>
 fn ask_all(alloc: Global, parts: &[Part], most: usize) -> Result<Vec<Asked>, NoMemory>
     ensures parts { IfOk result (λ asked. map part_of asked.items ≡ parts.now) }
     ensures room { IfOk result (λ asked. AllByRecursion (HasRoom most) asked.items) }
+    ensures no_more { IfOk result (λ asked. AllByRecursion (λ one. vec_capacity one.found ≤ most) asked.items) }
 {
     let mut all = Vec::with_capacity(alloc, parts.len())?;
     for part in parts {
@@ -53,11 +55,21 @@ fn parent_low(path: &Path, low: u64) -> u64
     if child == 0 { 0 } else { low }
 }
 
-// How many rows a leaf of `held` rows may be left with, at most, by this many parts.
-fn most_rows(held: usize, count: usize) -> Result<usize, NoMemory>
-    ensures { IfOk result (λ most. most ≡ held + count) }
+// How many of the parts are Sets.
+fn count_sets(parts: &[Part]) -> usize
+    ensures { result ≡ set_count parts.now }
 {
-    match held.checked_add(count) {
+    parts
+        .iter()
+        .filter(|part| matches!(&part.ask, Ask::Set(_)))
+        .count()
+}
+
+// How many rows a leaf of `held` rows may have, at most, while these parts are resolved: no part but a Set adds one.
+fn most_rows(held: usize, parts: &[Part]) -> Result<usize, NoMemory>
+    ensures { IfOk result (λ most. most ≡ held + set_count parts.now) }
+{
+    match held.checked_add(count_sets(parts)) {
         Some(most) => Ok(most),
         None => Err(NoMemory),
     }
@@ -72,13 +84,14 @@ fn only_looks(asked: &[Asked], held: usize, least: usize) -> bool
 
 // For how many rows there must be room: for none where they aren't listed.
 fn row_room(looks: bool, most: usize) -> usize
-    ensures { looks ≡ false → result ≡ most }
+    ensures room { looks ≡ false → result ≡ most }
+    ensures no_more { result ≤ most }
 {
     if looks { 0 } else { most }
 }
 
 /// The plan for a group's leaf, which has `held` rows. It is removed where it is left with some rows, but fewer than `least`.
-/// `NoMemory` where room was refused.
+/// Only a Set can add a row, so there is room by `held` and the number of Sets. `NoMemory` where room was refused.
 pub fn plan<'a>(
     alloc: Global,
     group: &'a Group,
@@ -87,15 +100,16 @@ pub fn plan<'a>(
 ) -> Result<LeafPlan<'a>, NoMemory>
     requires { AllByRecursion HasKey group.now.parts }
     ensures plan { IfOk result (λ plan. IsPlan held plan) }
+    ensures no_more { IfOk result (λ plan. TakesAtMost (held + set_count group.now.parts) plan) }
     ensures parts { IfOk result (λ plan. parts_of_plan plan ≡ group.now.parts) }
     ensures path { IfOk result (λ plan. plan.path.now ≡ group.now.path) }
     ensures low { IfOk result (λ plan. plan.low ≡ written_low group.now.path group.now.low) }
     ensures least { IfOk result (λ plan. plan.least ≡ least) }
 {
-    let count = group.parts.len();
-    let most = most_rows(held, count)?;
+    let parts = group.parts.as_slice();
+    let most = most_rows(held, parts)?;
     let low = parent_low(&group.path, group.low);
-    let asked = ask_all(alloc, group.parts.as_slice(), most)?;
+    let asked = ask_all(alloc, parts, most)?;
     let looks = only_looks(&asked, held, least);
     let rows = Vec::with_capacity(alloc, row_room(looks, most))?;
     let later = Vec::with_capacity(alloc, pieces(MOST_LEAF_ROWS, most).saturating_sub(1))?;

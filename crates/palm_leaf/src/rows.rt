@@ -1,11 +1,11 @@
 // The rows of a leaf while its parts are resolved, one after another in the order of their arrival.
-ghost use Rattle.std.specs.Prelude.{◌≡◌, true, ◌≤◌, ◌<◌, ◌+◌, [], length, map, take, filter, vec_len, vec_capacity};
+ghost use Rattle.std.specs.Prelude.{◌≡◌, true, ◌≤◌, ◌<◌, ◌+◌, [], ◌∷◌, length, map, take, filter, vec_len, vec_capacity};
 ghost use Rattle.std.specs.List.{AllByRecursion};
 ghost use Rattle.palm_base.specs.Table.{rate_at, put, without, lies_within, after_all, IsTable};
 ghost use Rattle.palm_route.specs.Edits.{edits_of};
 ghost use Rattle.palm_leaf.specs.Routed.{HasKey};
 ghost use Rattle.palm_leaf.specs.Answers.{answers_in, answer_of, after_part};
-ghost use Rattle.palm_leaf.specs.Asked.{is_edit, is_look, all_look, has_edit, answered, part_of, IsOpen, FindsRoom};
+ghost use Rattle.palm_leaf.specs.Asked.{is_edit, is_look, all_look, has_edit, set_count, answered, part_of, IsOpen, FindsRoom};
 
 use palm_base::{Amount, Digits, Row, find_row};
 use palm_node::Leaf;
@@ -133,14 +133,14 @@ impl Asked {
         }
     }
 
-    // Does the part's edit, where it is one, for which there is room.
+    // Does the part's edit, where it is one. There is room for the row that a Set may add.
     fn edit(&self, rows: &mut Vec<Row>)
         requires table { IsTable rows.old.items }
-        requires room { vec_len rows.old < vec_capacity rows.old }
+        requires room { vec_len rows.old + set_count (self.now.part ∷ []) ≤ vec_capacity rows.old }
         requires key { HasKey self.now.part }
         ensures rows { rows.new.items ≡ after_part rows.old.items self.now.part }
         ensures table { IsTable rows.new.items }
-        ensures len { vec_len rows.new ≤ vec_len rows.old + 1 }
+        ensures len { vec_len rows.new ≤ vec_len rows.old + set_count (self.now.part ∷ []) }
         ensures capacity { vec_capacity rows.new ≡ vec_capacity rows.old }
     {
         let key = self.part.key;
@@ -157,15 +157,15 @@ impl Asked {
         }
     }
 
-    // Answers the part on the rows, and does its edit.
+    // Answers the part on the rows, and does its edit. There is room for the row that a Set may add.
     fn resolve(&mut self, rows: &mut Vec<Row>)
         requires table { IsTable rows.old.items }
-        requires room { vec_len rows.old < vec_capacity rows.old }
+        requires room { vec_len rows.old + set_count (self.old.part ∷ []) ≤ vec_capacity rows.old }
         requires open { IsOpen (length rows.old.items) self.old }
         ensures answer { answered self.new ≡ record { part = self.old.part; answer = answer_of rows.old.items self.old.part } }
         ensures rows { rows.new.items ≡ after_part rows.old.items self.old.part }
         ensures table { IsTable rows.new.items }
-        ensures len { vec_len rows.new ≤ vec_len rows.old + 1 }
+        ensures len { vec_len rows.new ≤ vec_len rows.old + set_count (self.old.part ∷ []) }
         ensures capacity { vec_capacity rows.new ≡ vec_capacity rows.old }
     {
         self.answer(rows);
@@ -208,15 +208,15 @@ pub fn look_all(leaf: &Leaf, asked: &mut [Asked])
     }
 }
 
-/// Resolves a leaf's parts on its rows in their order, for each of which there is room.
+/// Resolves a leaf's parts on its rows in their order. There is room for the rows that their Sets may add.
 pub fn resolve(rows: &mut Vec<Row>, asked: &mut [Asked])
     requires table { IsTable rows.old.items }
-    requires room { vec_len rows.old + length asked.old ≤ vec_capacity rows.old }
-    requires open { AllByRecursion (IsOpen (vec_len rows.old + length asked.old)) asked.old }
+    requires room { vec_len rows.old + set_count (map part_of asked.old) ≤ vec_capacity rows.old }
+    requires open { AllByRecursion (IsOpen (vec_len rows.old + set_count (map part_of asked.old))) asked.old }
     ensures answers { map answered asked.new ≡ answers_in rows.old.items (map part_of asked.old) }
     ensures rows { rows.new.items ≡ after_all rows.old.items (edits_of (map part_of asked.old)) }
     ensures table { IsTable rows.new.items }
-    ensures len { vec_len rows.new ≤ vec_len rows.old + length asked.old }
+    ensures len { vec_len rows.new ≤ vec_len rows.old + set_count (map part_of asked.old) }
 {
     for one in asked.iter_mut() {
         one.resolve(rows);

@@ -1,25 +1,22 @@
-use Rattle.std.proofs.Common.{◌≡◌, ◌≤◌, ◌+◌, ◌∙◌, sym, ap, arith, length, refl, subst, vec_len, vec_capacity}
+use Rattle.std.proofs.Common.{◌≡◌, ◌≤◌, ◌+◌, ◌∙◌, sym, ap, arith, map, refl, subst, vec_capacity}
 use Rattle.std.specs.List.{AllByRecursion}
-use Rattle.palm_arena.proofs.Natural.{length-map'}
 use Rattle.palm_base.specs.Cut.{piece_count}
 use Rattle.palm_base.specs.declared.bounds.TheConstants.{MOST_LEAF_ROWS}
-use Rattle.palm_leaf.specs.Asked.{part_of, HasRoom}
+use Rattle.palm_leaf.specs.Asked.{set_count, part_of, HasRoom}
 use Rattle.palm_leaf.proofs.PlanRoom.{all_open}
 use Rattle.palm_leaf.proofs.room.plan.Goals as goal
 
 pub returns-clause-plan : goal.returns-clause-plan
 returns-clause-plan c =
     let asked = c.in_ok-asked.asked in
-    let count : vec_len asked ≡ c.len-count.result =
-    asked.ok.0 ∙ sym (length-map' part_of asked.items) ∙ ap length (c.in_ok-asked.ensures.parts ∙ c.as_slice.ensures) ∙ sym c.len-count.ensures in
-    let most : c.in_ok-most.most ≡ c.args.held + vec_len asked = c.in_ok-most.ensures ∙ ap (λ n. c.args.held + n) (sym count) in
+    let most : c.in_ok-most.most ≡ c.args.held + set_count (map part_of asked.items) = c.in_ok-most.ensures ∙ ap (λ parts. c.args.held + set_count parts) (sym c.in_ok-asked.ensures.parts) in
     let counted : piece_count MOST_LEAF_ROWS c.in_ok-most.most ≤ vec_capacity c.in_ok-later.later + 1 = omega (arith, c.pieces.ensures, c.in_ok-later.ensures.capacity) in
     record {
       no_rows = c.in_ok-rows.ensures.items;
       no_later = c.in_ok-later.ensures.items;
-      row_room = λ listed. omega (arith, most, c.in_ok-rows.ensures.capacity, c.row_room.ensures listed);
+      row_room = λ listed. omega (arith, most, c.in_ok-rows.ensures.capacity, c.row_room.ensures.room listed);
       looks = λ looks. rw c.deref.ensures.value at (c.only_looks-looks.ensures looks);
       later_room = subst (λ n. piece_count MOST_LEAF_ROWS n ≤ vec_capacity c.in_ok-later.later + 1) most counted;
       not_kept = refl;
-      waits = all_open _ asked.items c.args.group.now.parts (c.in_ok-asked.ensures.parts ∙ c.as_slice.ensures) c.requires (subst (λ n. AllByRecursion (HasRoom n) asked.items) most c.in_ok-asked.ensures.room);
+      waits = all_open _ asked.items c.args.group.now.parts (c.in_ok-asked.ensures.parts ∙ c.as_slice-parts.ensures) c.requires (subst (λ n. AllByRecursion (HasRoom n) asked.items) most c.in_ok-asked.ensures.room);
     }

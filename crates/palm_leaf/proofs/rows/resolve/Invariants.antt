@@ -2,7 +2,7 @@ use Rattle.std.proofs.Common.{◌≡◌, ◌≤◌, ◌+◌, ◌++◌, vec_len, 
 use Rattle.palm_base.specs.Table.{after_all, IsTable}
 use Rattle.palm_route.specs.Edits.{edits_of}
 use Rattle.palm_leaf.specs.Answers.{answers_in}
-use Rattle.palm_leaf.specs.Asked.{answered, part_of}
+use Rattle.palm_leaf.specs.Asked.{set_count, answered, part_of}
 use Rattle.palm_leaf.proofs.rows.resolve.Given as goal
 
 -- What is answered with what is still to be answered is the whole answer.
@@ -13,6 +13,6 @@ invariant-loop-one l = record {
   rest : drop l.one-index l.asked ≡ drop l.one-index l.fn.asked;
   same : length l.asked ≡ length l.fn.asked;
   table : IsTable l.rows.items;
-  few : vec_len l.rows ≤ vec_len l.fn.rows + l.one-index;
+  few : vec_len l.rows + set_count (map part_of (drop l.one-index l.fn.asked)) ≤ vec_len l.fn.rows + set_count (map part_of l.fn.asked);
   capacity : vec_capacity l.rows ≡ vec_capacity l.fn.rows;
 }
