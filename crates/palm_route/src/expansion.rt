@@ -12,7 +12,7 @@ ghost use Rattle.palm_route.specs.declared.part.Ask.TheVariants as ask;
 
 use crate::part::{Ask, Part, PartList};
 use palm_arena::{Arena, Shape};
-use palm_base::{Call, Digits, Entry, ItemList, Limit, NoMemory};
+use palm_base::{Call, Digits, Entry, Limit, NoMemory};
 use palm_node::{Node, NodeId};
 use std::alloc::Global;
 
@@ -30,10 +30,10 @@ fn append_lows(
     below: u32,
     low: u64,
     span: &Span,
-    keys: &mut ItemList<u64>,
+    keys: &mut Vec<u64>,
 ) -> Result<(), NoMemory>
     requires node { HasRange (map_of arena.now.places) below low id }
-    ensures ok { OnOk result ((path : List (NodeId × ℕ)) → keys.new ≡ keys.old ++ filter (is_later span.now.from span.now.to) (lows_of (leaves_under (map_of arena.now.places) below path low id))) }
+    ensures ok { OnOk result ((path : List (NodeId × ℕ)) → keys.new.items ≡ keys.old.items ++ filter (is_later span.now.from span.now.to) (lows_of (leaves_under (map_of arena.now.places) below path low id))) }
 {
     let inner = match arena.read(id) {
         Node::Leaf(_) => return append_low(low, span, keys),
@@ -50,8 +50,8 @@ fn append_lows(
 }
 
 // Appends a leaf's low where it lies above `from` and not above `to`.
-fn append_low(low: u64, span: &Span, keys: &mut ItemList<u64>) -> Result<(), NoMemory>
-    ensures ok { OnOk result (keys.new ≡ keys.old ++ filter (is_later span.now.from span.now.to) (low ∷ [])) }
+fn append_low(low: u64, span: &Span, keys: &mut Vec<u64>) -> Result<(), NoMemory>
+    ensures ok { OnOk result (keys.new.items ≡ keys.old.items ++ filter (is_later span.now.from span.now.to) (low ∷ [])) }
 {
     if span.from < low && low <= span.to {
         keys.push(low)?;
@@ -59,23 +59,17 @@ fn append_low(low: u64, span: &Span, keys: &mut ItemList<u64>) -> Result<(), NoM
     Ok(())
 }
 
-// The keys by which a List is routed.
-fn span_keys(
-    alloc: Global,
-    arena: &Arena,
-    shape: Shape,
-    span: &Span,
-) -> Result<ItemList<u64>, NoMemory>
+// Puts the keys by which a List is routed in place of those that stand there.
+fn put_keys(arena: &Arena, shape: Shape, span: &Span, keys: &mut Vec<u64>) -> Result<(), NoMemory>
     requires tree { HasTree (map_of arena.now.places) shape }
-    ensures { IfOk result (λ keys. keys ≡ list_keys span.now.from span.now.to (lows_of (leaves_at (map_of arena.now.places) shape))) }
+    ensures { OnOk result (keys.new.items ≡ list_keys span.now.from span.now.to (lows_of (leaves_at (map_of arena.now.places) shape))) }
 {
-    let mut keys = ItemList::new(alloc);
+    keys.clear();
     if span.from > span.to {
-        return Ok(keys);
+        return Ok(());
     }
     keys.push(span.from)?;
-    append_lows(arena, shape.root, shape.levels - 1, 0, span, &mut keys)?;
-    Ok(keys)
+    append_lows(arena, shape.root, shape.levels - 1, 0, span, keys)
 }
 
 // Appends a part for each key of a List.
@@ -117,13 +111,13 @@ fn append_fronts(entry: u64, number: &Digits, parts: &mut PartList) -> Result<()
     Ok(())
 }
 
-// Appends the parts of a call.
+// Appends the parts of a call. `keys` is room for the keys of a List, which the Lists of a batch share.
 fn append_call(
-    alloc: Global,
     arena: &Arena,
     shape: Shape,
     entry: u64,
     call: &Call,
+    keys: &mut Vec<u64>,
     parts: &mut PartList,
 ) -> Result<(), NoMemory>
     requires tree { HasTree (map_of arena.now.places) shape }
@@ -155,7 +149,7 @@ fn append_call(
                 from: from.key(),
                 to: to.key(),
             };
-            let keys = span_keys(alloc, arena, shape, &span)?;
+            put_keys(arena, shape, &span, keys)?;
             append_list(entry, keys.as_slice(), *from, *to, *limit, parts)
         }
     }
@@ -176,8 +170,16 @@ pub fn expand(
     ensures prefixes { OnOk result (AllByRecursion (λ entry. EditsPrefix entry.call) batch.now) }
 {
     let mut parts = PartList::from_vec(Vec::with_capacity(alloc, batch.len())?);
+    let mut keys = Vec::new(alloc);
     for (place, entry) in batch.iter().enumerate() {
-        append_call(alloc, arena, shape, place as u64, &entry.call, &mut parts)?;
+        append_call(
+            arena,
+            shape,
+            place as u64,
+            &entry.call,
+            &mut keys,
+            &mut parts,
+        )?;
     }
     Ok(parts)
 }

@@ -12,8 +12,8 @@ decreases-append_lows l = l.below
 abbrev pub invariant-loop-i : goal.invariant-loop-i
 invariant-loop-i l =
     (path : List (NodeId × ℕ))
-    → l.keys ++ later_from (map_of l.arena.places) (l.below - 1) path l.fn.id l.span.from l.span.to l.i (l.low ∷ l.inner.separators) l.inner.children
-    ≡ l.fn.keys ++ later_lows l.span.from l.span.to (leaves_under (map_of l.arena.places) l.below path l.low l.fn.id)
+    → l.keys.items ++ later_from (map_of l.arena.places) (l.below - 1) path l.fn.id l.span.from l.span.to l.i (l.low ∷ l.inner.separators) l.inner.children
+    ≡ l.fn.keys.items ++ later_lows l.span.from l.span.to (leaves_under (map_of l.arena.places) l.below path l.low l.fn.id)
 
 abbrev pub decreases-loop-i : goal.decreases-loop-i
 decreases-loop-i l = l.last + 1 - l.i
