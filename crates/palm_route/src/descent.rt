@@ -95,16 +95,16 @@ fn cut<'a>(
     ensures begin { IfOk result (λ works. AllByRecursion (Holds (λ work. (work.arena.now ≡ arena.now) × (work.shape ≡ shape) × HasRoom work)) works.items) }
 {
     let mut rest = parts;
-    let mut works = Vec::new(alloc);
+    let mut works = Vec::with_capacity(alloc, parts.len().div_ceil(size))?;
     while !rest.is_empty() {
         let (parts, behind) = rest.split_at(size.min(rest.len()));
         let routed = Vec::with_capacity(alloc, parts.len())?;
-        works.push(Some(DescentWork {
+        works.push_reserved(Some(DescentWork {
             arena,
             shape,
             parts,
             routed,
-        }))?;
+        }));
         rest = behind;
     }
     Ok(works)

@@ -32,10 +32,10 @@ fn marks_of(alloc: Global, routed: &[Routed]) -> Result<Vec<Mark>, NoMemory>
 {
     let mut marks = Vec::with_capacity(alloc, routed.len())?;
     for (place, one) in routed.iter().enumerate() {
-        marks.push(Mark {
+        marks.push_reserved(Mark {
             low: one.low,
             place,
-        })?;
+        });
     }
     Ok(marks)
 }
@@ -151,8 +151,10 @@ fn runs(alloc: Global, routed: &[Routed], marks: &[Mark]) -> Result<Groups, NoMe
 }
 
 /// Puts routed parts together by leaf. The groups stand in the order of the leaves, and the parts of a group in the order in
-/// which they are given. One worker sorts many parts alone; for more of them as many threads as the system has may sort.
-/// `NoMemory` where room for them was refused.
+/// which they are given. `NoMemory` where room for them was refused.
+///
+/// Where there is one worker, or fewer than 16,384 parts, this thread sorts alone. Else rayon's threads sort. How many they
+/// are follows from how many the system has, and not from `workers`.
 pub fn group<R: Threads + Sync>(
     rt: &R,
     alloc: Global,
