@@ -5,7 +5,7 @@ use palm_script::DumpWhen;
 /// The number of workers where the words don't say it.
 pub const DEFAULT_WORKERS: u32 = 1;
 
-/// The most calls of a batch.
+/// The most calls of a batch. It bounds the memory of a batch, whose calls and replies are held until it ends.
 pub const MOST_BATCH: u32 = 65_536;
 
 /// The most calls of a batch where the words don't say it.
@@ -46,7 +46,7 @@ pub struct Settings {
     pub workers: u32,
     /// The most calls of a batch.
     pub batch: u32,
-    /// How many calls a caller may have under way.
+    /// How many calls a caller may have under way. No mode uses it yet.
     pub window: u32,
     /// Whether the tree is dumped without a line that asks for it.
     pub dump: DumpWhen,
