@@ -2,6 +2,7 @@
 // between them are new prefixes all over the table.
 ghost use Rattle.std.specs.Prelude.{◌≡◌, ◌<◌, ◌≤◌, length, All, false};
 ghost use Rattle.palm_base.specs.Prefix.{is_no_digit};
+ghost use Rattle.palm_bench.specs.declared.plan.TheConstants.{MOST_COUNT};
 ghost use Rattle.palm_bench.specs.Kinds.{IsSet, IsDel, IsGet, IsRate, IsEdit, IsOfKind};
 
 use palm_base::{Amount, Call, Digits};
@@ -9,8 +10,32 @@ use palm_base::{Amount, Call, Digits};
 /// The number of nine digits from which prefixes are counted.
 const FIRST: u64 = 100_000_000;
 
+/// How many digits a prefix has.
+const PREFIX_DIGITS: usize = 9;
+
+/// How many digits a dialled number has.
+const NUMBER_DIGITS: usize = 12;
+
+/// The digits that are dialled after a prefix.
+const DIALLED_AFTER: u64 = 555;
+
+/// How many numbers can be dialled after a prefix: those of three digits.
+const TAILS: u64 = 1_000;
+
+/// Rates are below this.
+const RATES: u64 = 1_000;
+
 /// How many neighbouring prefixes are edited one after another.
 const RUN: u64 = 16;
+
+/// The first state of the random numbers.
+const SEED: u64 = 1;
+
+/// What the state of the random numbers is multiplied by, as in Knuth's MMIX.
+const FACTOR: u64 = 6_364_136_223_846_793_005;
+
+/// What is added to that.
+const INCREMENT: u64 = 1_442_695_040_888_963_407;
 
 /// What the calls of a run are.
 #[derive(Clone, Copy, Debug, PartialEq, Eq)]
@@ -59,9 +84,9 @@ fn last_digits<const N: usize>(number: u64) -> [u8; N]
 
 // The prefix of nine digits that is a number counted from `FIRST`.
 fn prefix_of(number: u64) -> Digits
-    ensures { length result ≡ 9 }
+    ensures { length result ≡ PREFIX_DIGITS }
 {
-    let text = last_digits::<9>(number.wrapping_add(FIRST));
+    let text = last_digits::<PREFIX_DIGITS>(number.wrapping_add(FIRST));
     let Ok(prefix) = Digits::read(&text) else {
         unreachable!()
     };
@@ -70,13 +95,13 @@ fn prefix_of(number: u64) -> Digits
 
 // A dialled number of twelve digits: the prefix of nine that is a number counted from `FIRST`, and three digits more.
 fn dialled(number: u64) -> Digits
-    ensures { length result ≡ 12 }
+    ensures { length result ≡ NUMBER_DIGITS }
 {
-    let text = last_digits::<12>(
+    let text = last_digits::<NUMBER_DIGITS>(
         number
             .wrapping_add(FIRST)
-            .wrapping_mul(1_000)
-            .wrapping_add(555),
+            .wrapping_mul(TAILS)
+            .wrapping_add(DIALLED_AFTER),
     );
     let Ok(number) = Digits::read(&text) else {
         unreachable!()
@@ -87,7 +112,7 @@ fn dialled(number: u64) -> Digits
 fn set(number: u64, rate: u64) -> Call
     ensures { IsSet result }
 {
-    let Some(rate) = Amount::new(rate % 1_000) else {
+    let Some(rate) = Amount::new(rate % RATES) else {
         unreachable!()
     };
     Call::Set {
@@ -124,14 +149,14 @@ impl Feed {
     /// The calls of a kind on a table of as many loaded rows, or those that load it.
     pub fn new(kind: Kind, rows: u64) -> Feed
         requires some { 1 ≤ rows }
-        requires few { rows ≤ 100000000 }
+        requires few { rows ≤ MOST_COUNT }
         ensures { result.kind ≡ kind }
     {
         Feed {
             kind,
             span: 2 * rows,
             made: 0,
-            random: 1,
+            random: SEED,
             start: 0,
         }
     }
@@ -141,10 +166,8 @@ impl Feed {
         ensures below { result < self.old.span }
         ensures kind { self.new.kind ≡ self.old.kind }
     {
-        self.random = self
-            .random
-            .wrapping_mul(6_364_136_223_846_793_005)
-            .wrapping_add(1_442_695_040_888_963_407);
+        self.random = self.random.wrapping_mul(FACTOR).wrapping_add(INCREMENT);
+        // The upper half, whose bits repeat after far more numbers than the lower ones.
         (self.random >> 32) % self.span
     }
 

@@ -1,5 +1,8 @@
 // What a run does.
 ghost use Rattle.std.specs.Prelude.{◌≤◌};
+ghost use Rattle.palm_share.specs.declared.share.TheConstants.{MOST_WORKERS};
+ghost use Rattle.palm_batch.specs.declared.batch.TheConstants.{MOST_CALLS};
+ghost use Rattle.palm_bench.specs.declared.plan.TheConstants.{MOST_COUNT};
 
 use crate::feed::Kind;
 
@@ -18,9 +21,9 @@ pub struct Plan {
     /// How many threads work on a batch at most.
     pub workers: u32,
     ghost some_calls: { 1 ≤ count },
-    ghost few_calls: { count ≤ 100000000 },
+    ghost few_calls: { count ≤ MOST_COUNT },
     ghost some_batch: { 1 ≤ batch },
-    ghost few_batch: { batch ≤ 65536 },
+    ghost few_batch: { batch ≤ MOST_CALLS },
     ghost some_workers: { 1 ≤ workers },
-    ghost few_workers: { workers ≤ 64 },
+    ghost few_workers: { workers ≤ MOST_WORKERS },
 }

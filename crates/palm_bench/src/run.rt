@@ -17,6 +17,9 @@ use std::alloc::Global;
 use std::sync::ledger::{Blank, Ledger};
 use std::thread::Threads;
 
+/// What the sum is multiplied by before a reply is added, so that the order of replies counts.
+const FACTOR: u64 = 31;
+
 /// What came of a run.
 #[derive(Debug, Drop)]
 pub struct Outcome {
@@ -46,7 +49,7 @@ fn number_of(reply: &Reply) -> u64
 fn add(sum: u64, reply: &Reply) -> u64
     ensures { result ≡ with_reply sum reply.now }
 {
-    sum.wrapping_mul(31).wrapping_add(number_of(reply))
+    sum.wrapping_mul(FACTOR).wrapping_add(number_of(reply))
 }
 
 // Adds replies to the sum, in their order.
