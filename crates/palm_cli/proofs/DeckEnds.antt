@@ -1,5 +1,5 @@
 -- How the mode `deck` ends, by how the deck was read and whether the table was written.
-use Rattle.std.proofs.Common.{◌≡◌, ℕ, zero, ◌+◌, ◌≤◌, inr, List, [], Option, refl, sym, ap, subst, ◌∙◌}
+use Rattle.std.proofs.Common.{◌≡◌, ℕ, zero, ◌+◌, ◌≤◌, inr, List, [], Option, refl, sym, ap, subst, ◌∙◌, arith}
 use Rattle.std.specs.Prelude.{IfOk, Result}
 use Rattle.std.specs.Io.KnownBytes.{Appends}
 use Rattle.palm_base.specs.History.{table_after}
@@ -13,13 +13,13 @@ use Rattle.palm_script.specs.declared.input.TheConstants.{MOST_BYTES}
 use Rattle.palm_words.specs.declared.settings.Mode.TheVariants.{Deck}
 use Rattle.palm_words.specs.declared.settings.Settings.{Settings}
 use Rattle.palm_cli.specs.Decks.{IsGoodDeck, deck_left}
-use Rattle.palm_cli.specs.Ends.{Outside, EndsIn}
+use Rattle.palm_cli.specs.Ends.{Outside, EndsIn, KeepsWrites}
 use Rattle.palm_cli.specs.Reads.{IsEdits, IsNoDeck}
 use Rattle.palm_cli.specs.Stops.{status_of}
 use Rattle.palm_cli.specs.Streams.{AppendsFront}
 use Rattle.palm_cli.specs.Tables.{tree_left, cost_left}
 use Rattle.palm_cli.specs.declared.stop.Stop.{Stop}
-use Rattle.palm_cli.specs.declared.stop.Stop.TheVariants.{Write}
+use Rattle.palm_cli.specs.declared.stop.Stop.TheVariants.{Memory, Write}
 use Rattle.palm_cli.specs.declared.status.Status.{Status}
 use Rattle.palm_cli.specs.declared.status.Status.TheVariants.{Done, Usage, BadLine, ReadFault, WriteFault, NoMemory, TooLong, BadRow}
 use Rattle.palm_cli.proofs.Statuses.{stop_ends}
@@ -48,13 +48,14 @@ pub no_deck_ends : (settings : Settings) (left rest taken : Option (List ℕ)) (
 no_deck_ends settings left rest taken before now writes steps Done after unread = absurd unread
 no_deck_ends settings left rest taken before now writes steps Usage after unread = absurd unread
 no_deck_ends settings left rest taken before now writes steps (BadLine fault) after unread = absurd unread
-no_deck_ends settings left rest taken before now writes steps ReadFault after unread = (unread.0, (unread.1.0, unread.1.1, refl))
+no_deck_ends settings left rest taken before now writes steps ReadFault after unread = (unread.0, (unread.1.0, unread.1.1, refl), refl)
 no_deck_ends settings left rest taken before now writes steps WriteFault after unread = absurd unread
-no_deck_ends settings left rest taken before now writes steps NoMemory after unread = (unread.0, unread.1, stopped_at_once Deck settings unread.0 rest taken)
+no_deck_ends settings left rest taken before now writes steps NoMemory after unread = (refl, (unread.0, unread.1, stopped_at_once Deck settings unread.0 rest taken))
 no_deck_ends settings left rest taken before now writes steps TooLong after unread =
-    (unread, (where_longer MOST_BYTES left rest unread.0 unread.1 unread.2, refl))
+    let read = unread.0 in
+    (read, (where_longer MOST_BYTES left rest read.0 read.1 (omega (arith, read.2)), refl), unread.1, refl)
 no_deck_ends settings left rest taken before now writes steps (BadRow row why) after unread =
-    (refl, unread.0, unread.1, (unread.2.0, unread.2.1, stopped_at_once Deck settings unread.2.0 rest taken))
+    (refl, unread.0, unread.1, (unread.2.0, unread.2.1, stopped_at_once Deck settings unread.2.0 rest taken), unread.3, refl)
 
 -- The edits of a good deck were run, and the table that they leave was written.
 pub deck_ends : (settings : Settings) (o : Outside) (edits : List Entry) (after : Tree) → IsEdits o.left o.rest o.reads_before o.reads_now edits
@@ -73,6 +74,7 @@ deck_ends settings o edits after read text tree kept few = (
 
 -- It stopped before its end.
 pub deck_stops : (settings : Settings) (stop : Stop) (o : Outside) (edits : List Entry) (after : Tree) → IsEdits o.left o.rest o.reads_before o.reads_now edits
-    → AppendsFront o.taken o.now (deck_left edits) → (stop ≡ Write → Rose o.writes_before o.writes_now) → EndsIn Deck settings (status_of stop) o after
-deck_stops settings stop o edits after read front rose =
-    stop_ends Deck settings stop o after rose (read.bytes, read.whole, inr (read.end, read.size, (edits, read.says, front)))
+    → AppendsFront o.taken o.now (deck_left edits) → (stop ≡ Write → Rose o.writes_before o.writes_now) → (stop ≡ Memory → KeepsWrites o)
+    → EndsIn Deck settings (status_of stop) o after
+deck_stops settings stop o edits after read front rose kept =
+    stop_ends Deck settings stop o after rose kept (read.bytes, read.whole, inr (read.end, read.size, (edits, read.says, front)))

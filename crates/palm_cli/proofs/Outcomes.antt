@@ -73,11 +73,11 @@ longer most bytes more unread size one = omega (arith, length-append (bytes ++ m
 
 -- The source has a byte too many, which was read.
 long_script : (settings : Settings) (o : Outside) (bytes : List ℕ) (after : Tree) → Ran settings o bytes Long after → (script_of bytes false).fault ≡ None
-    → HasReadPast o.left o.rest × IfSome o.left (λ b. IsLongScript settings b o.taken o.now after)
+    → HasReadPast o.left o.rest × IfSome o.left (λ b. IsLongScript settings b o.taken o.now after) × (o.reads_now ≡ o.reads_before)
 long_script settings o bytes after ran none =
     let said : Outcome = script_of bytes false in
     let more : List ℕ = ran.read.0 in
-    let past : MOST_BYTES < length (bytes ++ more) = omega (arith, length-append bytes more, ran.read.2, ran.read.3) in (
+    let past : length (bytes ++ more) ≡ MOST_BYTES + 1 = omega (arith, length-append bytes more, ran.read.2, ran.read.3) in (
       (bytes ++ more, ran.read.1, past),
       where_read (λ (b : List ℕ). IsLongScript settings b o.taken o.now after) o.left o.rest (bytes ++ more) ran.read.1 (λ unread.
           let front : List ℕ = take MOST_BYTES ((bytes ++ more) ++ unread) in
@@ -88,6 +88,7 @@ long_script settings o bytes after ran none =
             text = text_of_same settings said (script_of front false) o.taken o.now same ran.text;
             tree = tree_of_same settings said (script_of front false) after same ran.tree;
           }),
+      ran.read.4,
     )
 
 -- ---- a line has a fault
@@ -139,10 +140,15 @@ run_ends stands settings o bytes end after ran kept few (Some fault) is = (
   refl,
   bad_script stands settings o bytes end fault after ran is,
   stopped settings o.left o.rest o.taken o.now o.reads_before o.reads_now bytes end ran.read ran.most (front_whole o.taken o.now (text_read settings bytes end) ran.text),
+  kept,
 )
 run_ends stands settings o bytes Whole after ran kept few None is =
     let good = good_script settings o bytes after ran is in
     let Few : List ℕ → Type 0 = λ b. o.steps_now ≤ o.steps_before + run_cost (run_of settings (script_of b true)) in
     (good.0, λ reads. good.1, good.2, kept, where_whole Few o.left o.rest bytes ran.read.0 ran.read.1 few)
-run_ends stands settings o bytes Failed after ran kept few None is = cut_script settings o bytes after ran is
-run_ends stands settings o bytes Long after ran kept few None is = long_script settings o bytes after ran is
+run_ends stands settings o bytes Failed after ran kept few None is =
+    let cut = cut_script settings o bytes after ran is in
+    (cut.0, cut.1, kept)
+run_ends stands settings o bytes Long after ran kept few None is =
+    let long = long_script settings o bytes after ran is in
+    (long.0, long.1, long.2, kept)

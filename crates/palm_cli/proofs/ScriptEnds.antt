@@ -17,13 +17,13 @@ use Rattle.palm_script.specs.declared.script.Script.{Script}
 use Rattle.palm_words.specs.declared.settings.Mode.TheVariants.{Replay}
 use Rattle.palm_words.specs.declared.settings.Settings.{Settings}
 use Rattle.palm_cli.specs.Costs.{run_cost}
-use Rattle.palm_cli.specs.Ends.{Outside, EndsIn}
+use Rattle.palm_cli.specs.Ends.{Outside, EndsIn, KeepsWrites}
 use Rattle.palm_cli.specs.Scripts.{run_of}
 use Rattle.palm_cli.specs.Statuses.{is_done}
 use Rattle.palm_cli.specs.Stops.{ended_by, status_of}
 use Rattle.palm_cli.specs.Streams.{AppendsFront, text_to}
 use Rattle.palm_cli.specs.declared.stop.Stop.{Stop}
-use Rattle.palm_cli.specs.declared.stop.Stop.TheVariants.{Write}
+use Rattle.palm_cli.specs.declared.stop.Stop.TheVariants.{Memory, Write}
 use Rattle.palm_cli.proofs.Outcomes.{Ran, run_ends}
 use Rattle.palm_cli.proofs.Statuses.{stop_ends}
 use Rattle.palm_cli.proofs.Stopped.{stopped, text_read}
@@ -75,7 +75,7 @@ script_ends stands settings o bytes end script ends after read most says finishe
 pub script_stops : (settings : Settings) (stop : Stop) (o : Outside) (bytes : List ℕ) (end : InputEnd) (script : Script) (ends : Bool) (after : Tree)
     → IsRead o.left o.rest o.reads_before o.reads_now bytes end → length bytes ≤ MOST_BYTES → Says (script_of bytes (is_whole end)) script
     → ends ≡ is_whole end && is_none script.fault → AppendsFront o.taken o.now (text_to settings.dump ends (run_read settings script))
-    → (stop ≡ Write → Rose o.writes_before o.writes_now) → EndsIn Replay settings (status_of stop) o after
-script_stops settings stop o bytes end script ends after read most says finished front rose =
+    → (stop ≡ Write → Rose o.writes_before o.writes_now) → (stop ≡ Memory → KeepsWrites o) → EndsIn Replay settings (status_of stop) o after
+script_stops settings stop o bytes end script ends after read most says finished front rose kept =
     let begun = subst (AppendsFront o.taken o.now) (said_text settings bytes end script ends says finished) front in
-    stop_ends Replay settings stop o after rose (stopped settings o.left o.rest o.taken o.now o.reads_before o.reads_now bytes end read most begun)
+    stop_ends Replay settings stop o after rose kept (stopped settings o.left o.rest o.taken o.now o.reads_before o.reads_now bytes end read most begun)

@@ -11,7 +11,7 @@ use Rattle.palm_words.specs.declared.settings.Mode.{Mode}
 use Rattle.palm_words.specs.declared.settings.Mode.TheVariants.{Replay, Deck, Gen}
 use Rattle.palm_words.specs.declared.settings.Settings.{Settings}
 use Rattle.palm_cli.specs.Decks.{IsBadDeck}
-use Rattle.palm_cli.specs.Ends.{Outside, HasStopped, IsReadWhole, IsDone, TookFew, IsCutShort, IsLong, EndsIn, EndsAs, EndsUnfailed, HasEnded}
+use Rattle.palm_cli.specs.Ends.{Outside, HasStopped, KeepsReads, KeepsWrites, IsReadWhole, IsDone, TookFew, IsCutShort, IsLong, EndsIn, EndsAs, EndsUnfailed, HasEnded}
 use Rattle.palm_cli.specs.Scripts.{IsBadScript}
 use Rattle.palm_cli.specs.Statuses.{code_of, names_fault}
 use Rattle.palm_cli.specs.Stops.{status_of}
@@ -24,10 +24,10 @@ use Rattle.palm_cli.proofs.Stopped.{stopped_at_once}
 
 -- The run stopped for this.
 pub stop_ends : (mode : Mode) (settings : Settings) (stop : Stop) (o : Outside) (after : Tree)
-    → (stop ≡ stops.Write → Rose o.writes_before o.writes_now) → HasStopped mode settings o
+    → (stop ≡ stops.Write → Rose o.writes_before o.writes_now) → (stop ≡ stops.Memory → KeepsWrites o) → HasStopped mode settings o
     → EndsIn mode settings (status_of stop) o after
-stop_ends mode settings stops.Memory o after rose stopped = stopped
-stop_ends mode settings stops.Write o after rose stopped = (rose refl, stopped)
+stop_ends mode settings stops.Memory o after rose kept stopped = (kept refl, stopped)
+stop_ends mode settings stops.Write o after rose kept stopped = (rose refl, stopped)
 
 -- Memory was refused while the words were read, before anything else was done.
 pub memory_ends : (found : Option Settings) (left taken : Option (List ℕ)) (reads writes steps : ℕ) (after : Tree)
@@ -44,13 +44,13 @@ pub memory_ends : (found : Option Settings) (left taken : Option (List ℕ)) (re
       steps_now = steps;
     }) after
 memory_ends None left taken reads writes steps after = inr refl
-memory_ends (Some settings) left taken reads writes steps after = ([], Consumes-nil left, stopped_at_once settings.mode settings [] left taken)
+memory_ends (Some settings) left taken reads writes steps after = (refl, ([], Consumes-nil left, stopped_at_once settings.mode settings [] left taken))
 
 -- For the line of a fault memory may be refused in the end.
 refused_line : (settings : Settings) (status : Status) (o : Outside) (after : Tree)
     → names_fault status ≡ true → EndsAs settings status o after → EndsAs settings NoMemory o after
-refused_line settings (BadLine fault) o after names ended = ended.2
-refused_line settings (BadRow row why) o after names ended = ended.3
+refused_line settings (BadLine fault) o after names ended = (ended.3, ended.2)
+refused_line settings (BadRow row why) o after names ended = (ended.5, ended.3)
 refused_line settings Done o after names ended = cc
 refused_line settings Usage o after names ended = cc
 refused_line settings ReadFault o after names ended = cc
@@ -119,16 +119,14 @@ ended_as other found status o after usage memory is ended = formed found other o
 where_some : (P : Settings → Type 0) (found : Option Settings) (settings : Settings) → found ≡ Some settings → P settings → IfSome found P
 where_some P found settings is p = subst (λ (x : Option Settings). IfSome x P) (sym is) p
 
--- 0: what the mode writes was taken, the source was read to its end, neither of the two failed, and no more steps were counted
--- than all batches may take.
+-- 0: what the mode writes was taken, the source was read to its end, and no more steps were counted than all batches may take.
 pub done_ended : (found : Option Settings) (status : Status) (o : Outside) (after : Tree) → HasEnded found status o after → code_of status ≡ 0
     → IfSome found (λ settings. IsDone settings.mode settings o.left o.taken o.now after) × IfSome found (λ settings. IsReadWhole settings.mode o.rest)
-    × ((o.reads_now ≡ o.reads_before) × (o.writes_now ≡ o.writes_before)) × IfSome found (λ settings. TookFew settings.mode settings o.left o.steps_before o.steps_now)
+    × IfSome found (λ settings. TookFew settings.mode settings o.left o.steps_before o.steps_now)
 done_ended found status o after ended code =
     let end = ended_as Done found status o after (λ e. omega (arith, e)) (λ e. omega (arith, e)) (is_of_code 0 status code) ended in (
       where_some _ found end.settings end.form end.end.0,
       where_some _ found end.settings end.form end.end.1,
-      (end.end.2, end.end.3),
       where_some _ found end.settings end.form end.end.4,
     )
 
@@ -180,7 +178,36 @@ pub stop_ended : (found : Option Settings) (status : Status) (o : Outside) (afte
     → HasEnded found status o after → (code_of status ≡ 5) ⊎ (code_of status ≡ 6) → IfSome found (λ settings. HasStopped settings.mode settings o)
 stop_ended found status o after ended (inl code) = (write_ended found status o after ended code).1
 stop_ended None status o after ended (inr code) = tt
-stop_ended (Some settings) status o after ended (inr code) = subst (λ (s : Status). EndsAs settings s o after) (is_of_code 6 status code) ended
+stop_ended (Some settings) status o after ended (inr code) = (subst (λ (s : Status). EndsAs settings s o after) (is_of_code 6 status code) ended).1
+
+-- The sink counted a fault at WriteFault alone.
+written_as : (settings : Settings) (status : Status) (o : Outside) (after : Tree) → EndsAs settings status o after → (code_of status ≡ 5 → ⊥) → KeepsWrites o
+written_as settings Done o after ended other = ended.3
+written_as settings Usage o after ended other = absurd ended
+written_as settings (BadLine fault) o after ended other = ended.3
+written_as settings ReadFault o after ended other = ended.2
+written_as settings WriteFault o after ended other = absurd (other refl)
+written_as settings NoMemory o after ended other = ended.0
+written_as settings TooLong o after ended other = ended.3
+written_as settings (BadRow row why) o after ended other = ended.5
+
+-- So it was at 5 alone, where words that aren't of the form leave it as it was.
+pub written_ended : (found : Option Settings) (status : Status) (o : Outside) (after : Tree)
+    → HasEnded found status o after → (found ≡ None → KeepsWrites o) → (code_of status ≡ 5 → ⊥) → KeepsWrites o
+written_ended None status o after ended unformed other = unformed refl
+written_ended (Some settings) status o after ended unformed other = written_as settings status o after ended other
+
+-- 0, 7 and 8: the source counted none.
+pub unfailed_ended : (found : Option Settings) (status : Status) (o : Outside) (after : Tree)
+    → HasEnded found status o after → (found ≡ None → KeepsReads o) → (code_of status ≡ 0) ⊎ (code_of status ≡ 7) ⊎ (code_of status ≡ 8) → KeepsReads o
+unfailed_ended None status o after ended unformed code = unformed refl
+unfailed_ended (Some settings) status o after ended unformed (inl done) =
+    (subst (λ (s : Status). EndsAs settings s o after) (is_of_code 0 status done) ended).2
+unfailed_ended (Some settings) status o after ended unformed (inr (inl long)) =
+    (subst (λ (s : Status). EndsAs settings s o after) (is_of_code 7 status long) ended).2
+unfailed_ended (Some settings) status o after ended unformed (inr (inr bad)) =
+    let row : (row : ℕ) × (why : DeckWhy) × (status ≡ BadRow row why) = is_of_code 8 status bad in
+    (subst (λ (s : Status). EndsAs settings s o after) row.2 ended).4
 
 -- 2 comes where the words aren't of the form.
 pub usage_ended : (found : Option Settings) (status : Status) (o : Outside) (after : Tree) → HasEnded found status o after → code_of status ≡ 2 → found ≡ None

@@ -14,8 +14,9 @@ use Rattle.palm_cli.specs.Tables.{table_left, tree_left}
 abbrev pub deck_left : List Entry → List ℕ
 deck_left edits = deck_text (table_left edits)
 
--- The deck b is good, and the deck of the table that its edits leave was taken. The tree is the one that they leave in batches
--- of `most`.
+-- The deck b is good, and the deck of the table that its edits leave was taken. The tree is the one that they leave in
+-- batches of `most`. So by "op,prefix,rate" and "set,44,7" a sink that was empty has these two lines, and the tree is a leaf
+-- of one row.
 pub record IsGoodDeck (most : ℕ) (b : List ℕ) (old new : Option (List ℕ)) (after : Tree) : Type 0 where
   pub size : length b ≤ MOST_BYTES
   pub edits : List Entry
@@ -30,7 +31,8 @@ pub record IsBadDeck (b : List ℕ) (row : ℕ) (why : DeckWhy) : Type 0 where
   pub first : deck_of b ≡ Err (Bad row why)
 
 -- The run stopped before its end, after these bytes were read and where the source now has `rest`. Nothing was taken, or
--- they are all of a source that isn't too long and a good deck, and what was taken begins the deck that it leaves.
+-- they are all of a source that isn't too long and a good deck, and what was taken begins the deck that it leaves. So where
+-- "op,prefix,rate" and "set,44,7" were read, a sink that was empty may have "op,pre".
 abbrev pub IsStoppedDeck : (read : List ℕ) (rest old new : Option (List ℕ)) → Type 0
 IsStoppedDeck read rest old new =
     Appends old new []

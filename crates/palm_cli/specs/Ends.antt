@@ -26,7 +26,7 @@ reads Replay = true
 reads Deck = true
 reads Gen = false
 
--- All went well. A source that was read had the bytes `left`, of which it may not tell.
+-- All went well. A source that was read had the bytes `left`, of which it may not tell. So in `gen` the summary was taken.
 abbrev pub IsDone : Mode → Settings → (left old new : Option (List ℕ)) → Tree → Type 0
 IsDone Replay settings left old new after = IfSome left (λ b. IsGoodScript settings b old new after)
 IsDone Deck settings left old new after = IfSome left (λ b. IsGoodDeck settings.batch b old new after)
@@ -39,13 +39,15 @@ TookFew Replay settings left before now = IfSome left (λ b. now ≤ before + ru
 TookFew Deck settings left before now = IfSome left (λ b. IfOk (deck_of b) (λ edits. now ≤ before + cost_left settings.batch edits))
 TookFew Gen settings left before now = now ≤ before + cost_left settings.batch (history_said settings)
 
--- The source failed after these bytes were read. In `deck` nothing is written then.
+-- The source failed after these bytes were read. In `deck` nothing is written then. So it isn't so in `gen`, which reads
+-- nothing.
 abbrev pub IsCutShort : Mode → Settings → (read : List ℕ) (old new : Option (List ℕ)) → Tree → Type 0
 IsCutShort Replay settings read old new after = IsCutScript settings read old new after
 IsCutShort Deck settings read old new after = new ≡ old
 IsCutShort Gen settings read old new after = ⊥
 
--- The source has more bytes than are taken. In `deck` nothing is written then.
+-- The source has more bytes than are taken. In `deck` nothing is written then. So it is so of a deck of 67,108,865 bytes, and
+-- not of one of 67,108,864.
 abbrev pub IsLong : Mode → Settings → (left old new : Option (List ℕ)) → Tree → Type 0
 IsLong Replay settings left old new after = IfSome left (λ b. IsLongScript settings b old new after)
 IsLong Deck settings left old new after = IfSome left (λ b. MOST_BYTES < length b) × (new ≡ old)
@@ -58,7 +60,7 @@ IsStopped Replay settings read rest old new = IsStoppedScript settings read rest
 IsStopped Deck settings read rest old new = IsStoppedDeck read rest old new
 IsStopped Gen settings read rest old new = AppendsFront old new (summary_said settings)
 
--- A mode's statuses where nothing failed. `gen` has no bad input.
+-- A mode's statuses where nothing failed. `gen` has no bad input. So 8 is one in `deck` alone.
 abbrev pub EndsUnfailed : Mode → ℕ → Type 0
 EndsUnfailed Replay code = (code ≡ 0) ⊎ (code ≡ 3) ⊎ (code ≡ 6) ⊎ (code ≡ 7)
 EndsUnfailed Deck code = (code ≡ 0) ⊎ (code ≡ 6) ⊎ (code ≡ 7) ⊎ (code ≡ 8)
@@ -85,6 +87,14 @@ pub record Outside : Type 0 where
 abbrev pub HasStopped : Mode → Settings → Outside → Type 0
 HasStopped mode settings o = (read : List ℕ) × Consumes o.left o.rest read × IsStopped mode settings read o.rest o.taken o.now
 
+-- The source counted no fault. So with the counts 3 and 3 it is so, and with 3 and 4 it isn't.
+abbrev pub KeepsReads : Outside → Type 0
+KeepsReads o = o.reads_now ≡ o.reads_before
+
+-- The sink counted no fault. So where it took all that it was offered it is so.
+abbrev pub KeepsWrites : Outside → Type 0
+KeepsWrites o = o.writes_now ≡ o.writes_before
+
 -- The source was read to its end, where the mode reads it at all. So in `deck` it has no byte left, and in `gen` nothing is
 -- asked of it.
 abbrev pub IsReadWhole : Mode → (rest : Option (List ℕ)) → Type 0
@@ -94,18 +104,19 @@ IsReadWhole mode rest = reads mode ≡ true → IsAtEnd rest
 -- taken begins what all would give.
 abbrev pub EndsIn : Mode → Settings → Status → Outside → Tree → Type 0
 EndsIn mode settings Done o after =
-    IsDone mode settings o.left o.taken o.now after × IsReadWhole mode o.rest × (o.reads_now ≡ o.reads_before) × (o.writes_now ≡ o.writes_before)
+    IsDone mode settings o.left o.taken o.now after × IsReadWhole mode o.rest × KeepsReads o × KeepsWrites o
     × TookFew mode settings o.left o.steps_before o.steps_now
 EndsIn mode settings Usage o after = ⊥
 EndsIn mode settings (BadLine fault) o after =
-    (mode ≡ Replay) × IfSome o.left (λ b. IsBadScript settings b fault o.taken o.now after) × HasStopped mode settings o
+    (mode ≡ Replay) × IfSome o.left (λ b. IsBadScript settings b fault o.taken o.now after) × HasStopped mode settings o × KeepsWrites o
 EndsIn mode settings ReadFault o after =
-    Rose o.reads_before o.reads_now × ((read : List ℕ) × Consumes o.left o.rest read × IsCutShort mode settings read o.taken o.now after)
+    Rose o.reads_before o.reads_now × ((read : List ℕ) × Consumes o.left o.rest read × IsCutShort mode settings read o.taken o.now after) × KeepsWrites o
 EndsIn mode settings WriteFault o after = Rose o.writes_before o.writes_now × HasStopped mode settings o
-EndsIn mode settings NoMemory o after = HasStopped mode settings o
-EndsIn mode settings TooLong o after = HasReadPast o.left o.rest × IsLong mode settings o.left o.taken o.now after
+EndsIn mode settings NoMemory o after = KeepsWrites o × HasStopped mode settings o
+EndsIn mode settings TooLong o after =
+    HasReadPast o.left o.rest × IsLong mode settings o.left o.taken o.now after × KeepsReads o × KeepsWrites o
 EndsIn mode settings (BadRow row why) o after =
-    (mode ≡ Deck) × IfSome o.left (λ b. IsBadDeck b row why) × IsAtEnd o.rest × HasStopped mode settings o
+    (mode ≡ Deck) × IfSome o.left (λ b. IsBadDeck b row why) × IsAtEnd o.rest × HasStopped mode settings o × KeepsReads o × KeepsWrites o
 
 -- The same in the mode of the settings. So in `gen` Done says that the summary was taken.
 abbrev pub EndsAs : Settings → Status → Outside → Tree → Type 0

@@ -72,7 +72,7 @@ pub record IsCutScript (settings : Settings) (read : List ℕ) (old new : Option
 
 -- The run stopped before its end, after these bytes were read and where the source now has `rest`. What was taken begins the
 -- transcript of the lines that had ended in them, as far as they are taken, or where they are all of a source that isn't too
--- long, the transcript of their script.
+-- long, the transcript of their script. So after "0 get 44" a sink that was empty may have "0 0 abs".
 abbrev pub IsStoppedScript : Settings → (read : List ℕ) (rest old new : Option (List ℕ)) → Type 0
 IsStoppedScript settings read rest old new =
     AppendsFront old new (text_said settings (script_of (take MOST_BYTES read) false))

@@ -1,5 +1,5 @@
 -- How much of a transcript is written, how much of a text a sink has taken, and how much was read of a source.
-use Rattle.std.specs.Prelude.{◌≡◌, ℕ, ◌-◌, ◌^◌, ◌<◌, ◌≤◌, Bool, if◌then◌else◌, List, length, take, Option}
+use Rattle.std.specs.Prelude.{◌≡◌, ℕ, ◌+◌, ◌-◌, ◌^◌, ◌<◌, ◌≤◌, Bool, if◌then◌else◌, List, length, take, Option}
 use Rattle.std.specs.Io.KnownBytes.{Appends, Consumes}
 use Rattle.palm_script.specs.Transcript.{Section, text_of, final_of}
 use Rattle.palm_script.specs.declared.dump.DumpWhen.{DumpWhen}
@@ -20,6 +20,6 @@ pub record Told (old new : Option (List ℕ)) (before now : ℕ) (line : List �
 abbrev pub text_to : DumpWhen → Bool → List Section → List ℕ
 text_to dump ends run = if ends then final_of dump run else text_of dump run
 
--- More bytes were read than are taken. So where 3 are taken, a source of 5 may have lost 4.
+-- One byte more was read than are taken. So where 3 are taken, a source of 5 has lost 4.
 abbrev pub HasReadPast : (left rest : Option (List ℕ)) → Type 0
-HasReadPast left rest = (read : List ℕ) × Consumes left rest read × (MOST_BYTES < length read)
+HasReadPast left rest = (read : List ℕ) × Consumes left rest read × (length read ≡ MOST_BYTES + 1)

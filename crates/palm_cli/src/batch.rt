@@ -29,7 +29,7 @@ pub fn answer_batch<R: Threads + Sync, G: Gate + Sync, L: Ledger>(
     requires settings { AreWithin settings.now }
     requires within { length batch.now ≤ settings.now.batch }
     ensures replies { IfOk result (λ replies. replies.items ≡ replies_to (rows_of (tree_in engine.old.tree)) batch.now) }
-    ensures many { IfOk result (λ replies. length replies.items ≡ length batch.now) }
+    ensures same { IfOk result (λ replies. length replies.items ≡ length batch.now) }
     ensures tree { OnOk result (tree_in engine.new.tree ≡ batch_tree (tree_in engine.old.tree) (calls_of batch.now)) }
     ensures rows { OnOk result (rows_of (tree_in engine.new.tree) ≡ table_after (rows_of (tree_in engine.old.tree)) batch.now) }
     ensures lawful { IsLawful (tree_in engine.new.tree) }

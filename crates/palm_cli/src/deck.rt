@@ -96,6 +96,7 @@ fn write_table<O: Sink>(alloc: Global, tree: &Tree, out: &mut O) -> Result<(), S
     ensures text { OnOk result (Appends (O.taken out.old) (O.taken out.new) (deck_text (rows_of (tree_in tree.now)))) }
     ensures front { OnErr result (AppendsFront (O.taken out.old) (O.taken out.new) (deck_text (rows_of (tree_in tree.now)))) }
     ensures kept { OnOk result (O.faults out.new ≡ O.faults out.old) }
+    ensures unfailed { IsErrOf result Stop.Memory → O.faults out.new ≡ O.faults out.old }
     ensures cause { IsErrOf result Stop.Write → Rose (O.faults out.old) (O.faults out.new) }
 {
     let rows = tree.all_rows()?;
@@ -123,6 +124,7 @@ fn run_deck<R: Threads + Sync, O: Sink, G: Gate + Sync, L: Ledger>(
     ensures ticks { OnOk result (steps.new ≤ steps.old + cost_left settings.now.batch edits.now) }
     ensures lawful { IsLawful (tree_in engine.new.tree) }
     ensures kept { OnOk result (O.faults out.new ≡ O.faults out.old) }
+    ensures unfailed { IsErrOf result Stop.Memory → O.faults out.new ≡ O.faults out.old }
     ensures cause { IsErrOf result Stop.Write → Rose (O.faults out.old) (O.faults out.new) }
 {
     run_edits(rt, settings, engine, edits, gate, steps)?;
@@ -145,7 +147,7 @@ pub fn deck<R: Threads + Sync, S: Source, O: Sink, G: Gate + Sync, L: Ledger>(
     requires new { tree_in engine.old.tree ≡ (zero, []) }
     ensures end { EndsIn Mode.Deck settings.now result (record { left = S.left src.old; rest = S.left src.new; taken = O.taken out.old; now = O.taken out.new; reads_before = S.faults src.old; reads_now = S.faults src.new; writes_before = O.faults out.old; writes_now = O.faults out.new; steps_before = steps.old; steps_now = steps.new }) (tree_in engine.new.tree) }
     ensures lawful { IsLawful (tree_in engine.new.tree) }
-    ensures untouched { (code_of result ≡ 4) ⊎ (code_of result ≡ 7) ⊎ (code_of result ≡ 8) → (out.new ≡ out.old) × (engine.new ≡ engine.old) }
+    ensures untouched { (code_of result ≡ 4) ⊎ (code_of result ≡ 7) ⊎ (code_of result ≡ 8) → (out.new ≡ out.old) × (engine.new ≡ engine.old) × (steps.new ≡ steps.old) }
 {
     let edits = match read_edits(alloc, src) {
         Ok(deck) => deck,

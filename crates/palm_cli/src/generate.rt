@@ -71,6 +71,7 @@ fn write_summary<O: Sink>(
     ensures text { OnOk result (Appends (O.taken out.old) (O.taken out.new) (summary_by tally.now (rows_of (tree_in tree.now)) (tree_in tree.now))) }
     ensures front { OnErr result (AppendsFront (O.taken out.old) (O.taken out.new) (summary_by tally.now (rows_of (tree_in tree.now)) (tree_in tree.now))) }
     ensures kept { OnOk result (O.faults out.new ≡ O.faults out.old) }
+    ensures unfailed { IsErrOf result Stop.Memory → O.faults out.new ≡ O.faults out.old }
     ensures cause { IsErrOf result Stop.Write → Rose (O.faults out.old) (O.faults out.new) }
 {
     let mut text = Vec::new(alloc);
@@ -97,6 +98,7 @@ fn run_summary<R: Threads + Sync, O: Sink, G: Gate + Sync, L: Ledger>(
     ensures ticks { OnOk result (steps.new ≤ steps.old + cost_left settings.now.batch (history_said settings.now)) }
     ensures lawful { IsLawful (tree_in engine.new.tree) }
     ensures kept { OnOk result (O.faults out.new ≡ O.faults out.old) }
+    ensures unfailed { IsErrOf result Stop.Memory → O.faults out.new ≡ O.faults out.old }
     ensures cause { IsErrOf result Stop.Write → Rose (O.faults out.old) (O.faults out.new) }
 {
     let mut batch = Vec::new(alloc);

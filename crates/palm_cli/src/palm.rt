@@ -1,5 +1,5 @@
 //! The top call: the words are read, the mode that they set is run, and the error stream is told how it ended.
-ghost use Rattle.std.specs.Prelude.{◌≡◌, ◌+◌, ◌<◌, ◌^◌, ◌-◌, ◌⊎◌, [], map, IfSome, None, string_bytes, List, ℕ};
+ghost use Rattle.std.specs.Prelude.{◌≡◌, ◌≢◌, ◌+◌, ◌<◌, ◌^◌, ◌-◌, ◌⊎◌, [], map, IfSome, None, string_bytes, List, ℕ};
 ghost use Rattle.std.specs.Io.KnownBytes.{Consumes, IsAtEnd};
 ghost use Rattle.std.proofs.Common.{zero};
 ghost use Rattle.palm_base.specs.Lawful.{IsLawful};
@@ -45,7 +45,7 @@ fn run_mode<R: Threads + Sync, S: Source, O: Sink, G: Gate + Sync, L: Ledger>(
     ensures end { EndsAs settings.now result (record { left = S.left src.old; rest = S.left src.new; taken = O.taken out.old; now = O.taken out.new; reads_before = S.faults src.old; reads_now = S.faults src.new; writes_before = O.faults out.old; writes_now = O.faults out.new; steps_before = steps.old; steps_now = steps.new }) (tree_in engine.new.tree) }
     ensures lawful { IsLawful (tree_in engine.new.tree) }
     ensures unread { settings.now.mode ≡ Mode.Gen → src.new ≡ src.old }
-    ensures untouched { (code_of result ≡ 4) ⊎ (code_of result ≡ 7) ⊎ (code_of result ≡ 8) → settings.now.mode ≡ Mode.Deck → (out.new ≡ out.old) × (engine.new ≡ engine.old) }
+    ensures untouched { (code_of result ≡ 4) ⊎ (code_of result ≡ 7) ⊎ (code_of result ≡ 8) → settings.now.mode ≡ Mode.Deck → (out.new ≡ out.old) × (engine.new ≡ engine.old) × (steps.new ≡ steps.old) }
 {
     match settings.mode {
         Mode::Replay => replay(rt, alloc, settings, engine, src, out, gate, steps),
@@ -68,9 +68,9 @@ fn run_words<R: Threads + Sync, S: Source, O: Sink, G: Gate + Sync, L: Ledger>(
     requires new { tree_in engine.old.tree ≡ (zero, []) }
     ensures end { HasEnded (settings_of (map string_bytes words.now.items)) result (record { left = S.left src.old; rest = S.left src.new; taken = O.taken out.old; now = O.taken out.new; reads_before = S.faults src.old; reads_now = S.faults src.new; writes_before = O.faults out.old; writes_now = O.faults out.new; steps_before = steps.old; steps_now = steps.new }) (tree_in engine.new.tree) }
     ensures lawful { IsLawful (tree_in engine.new.tree) }
-    ensures nothing { settings_of (map string_bytes words.now.items) ≡ None → (src.new ≡ src.old) × (out.new ≡ out.old) × (engine.new ≡ engine.old) }
+    ensures nothing { settings_of (map string_bytes words.now.items) ≡ None → (src.new ≡ src.old) × (out.new ≡ out.old) × (engine.new ≡ engine.old) × (steps.new ≡ steps.old) }
     ensures unread { IfSome (settings_of (map string_bytes words.now.items)) (λ settings. settings.mode ≡ Mode.Gen → src.new ≡ src.old) }
-    ensures untouched { (code_of result ≡ 4) ⊎ (code_of result ≡ 7) ⊎ (code_of result ≡ 8) → IfSome (settings_of (map string_bytes words.now.items)) (λ settings. settings.mode ≡ Mode.Deck → (out.new ≡ out.old) × (engine.new ≡ engine.old)) }
+    ensures untouched { (code_of result ≡ 4) ⊎ (code_of result ≡ 7) ⊎ (code_of result ≡ 8) → IfSome (settings_of (map string_bytes words.now.items)) (λ settings. settings.mode ≡ Mode.Deck → (out.new ≡ out.old) × (engine.new ≡ engine.old) × (steps.new ≡ steps.old)) }
 {
     match read_words(alloc, words) {
         Ok(settings) => run_mode(rt, alloc, &settings, engine, src, out, gate, steps),
@@ -94,9 +94,10 @@ fn run_and_tell<R: Threads + Sync, S: Source, O: Sink, E: Sink, G: Gate + Sync, 
     requires new { tree_in engine.old.tree ≡ (zero, []) }
     ensures end { HasEnded (settings_of (map string_bytes words.now.items)) result (record { left = S.left src.old; rest = S.left src.new; taken = O.taken out.old; now = O.taken out.new; reads_before = S.faults src.old; reads_now = S.faults src.new; writes_before = O.faults out.old; writes_now = O.faults out.new; steps_before = steps.old; steps_now = steps.new }) (tree_in engine.new.tree) }
     ensures lawful { IsLawful (tree_in engine.new.tree) }
-    ensures nothing { settings_of (map string_bytes words.now.items) ≡ None → (src.new ≡ src.old) × (out.new ≡ out.old) × (engine.new ≡ engine.old) }
+    ensures nothing { settings_of (map string_bytes words.now.items) ≡ None → (src.new ≡ src.old) × (out.new ≡ out.old) × (engine.new ≡ engine.old) × (steps.new ≡ steps.old) }
     ensures unread { IfSome (settings_of (map string_bytes words.now.items)) (λ settings. settings.mode ≡ Mode.Gen → src.new ≡ src.old) }
-    ensures untouched { (code_of result ≡ 4) ⊎ (code_of result ≡ 7) ⊎ (code_of result ≡ 8) → IfSome (settings_of (map string_bytes words.now.items)) (λ settings. settings.mode ≡ Mode.Deck → (out.new ≡ out.old) × (engine.new ≡ engine.old)) }
+    ensures untouched { (code_of result ≡ 4) ⊎ (code_of result ≡ 7) ⊎ (code_of result ≡ 8) → IfSome (settings_of (map string_bytes words.now.items)) (λ settings. settings.mode ≡ Mode.Deck → (out.new ≡ out.old) × (engine.new ≡ engine.old) × (steps.new ≡ steps.old)) }
+    ensures quiet { result ≡ Status.Done → err.new ≡ err.old }
     ensures told { Told (E.taken err.old) (E.taken err.new) (E.faults err.old) (E.faults err.new) (status_text result) }
 {
     let status = run_words(rt, alloc, words, engine, src, out, gate, steps);
@@ -141,17 +142,17 @@ pub fn palm<R: Threads + Sync, S: Source, O: Sink, E: Sink, G: Gate + Sync, L: L
     // The engine's tree is lawful, however the run ends.
     ensures lawful { IsLawful (tree_in engine.new.tree) }
 
-    // 0: what was read is good, all that the mode writes of it was taken, and nothing failed. The tree is that of all calls, and no
-    // more steps were counted than the batches may take.
+    // 0: what was read is good, and all that the mode writes of it was taken. The tree is that of all calls, no more steps were
+    // counted than the batches may take, and the error stream was told nothing.
     ensures good { result ≡ 0 → IfSome (settings_of (map string_bytes words.now.items)) (λ settings. IsDone settings.mode settings (S.left src.old) (O.taken out.old) (O.taken out.new) (tree_in engine.new.tree)) }
     ensures whole { result ≡ 0 → IfSome (settings_of (map string_bytes words.now.items)) (λ settings. IsReadWhole settings.mode (S.left src.new)) }
     ensures ticks { result ≡ 0 → IfSome (settings_of (map string_bytes words.now.items)) (λ settings. TookFew settings.mode settings (S.left src.old) steps.old steps.new) }
-    ensures kept { result ≡ 0 → (S.faults src.new ≡ S.faults src.old) × (O.faults out.new ≡ O.faults out.old) }
+    ensures quiet { result ≡ 0 → err.new ≡ err.old }
 
     // 2 comes exactly where the words aren't of the form, but for want of memory, and then nothing is read or written.
     ensures usage { result ≡ 2 → settings_of (map string_bytes words.now.items) ≡ None }
     ensures refused { settings_of (map string_bytes words.now.items) ≡ None → (result ≡ 2) ⊎ (result ≡ 6) }
-    ensures nothing { settings_of (map string_bytes words.now.items) ≡ None → (src.new ≡ src.old) × (out.new ≡ out.old) × (engine.new ≡ engine.old) }
+    ensures nothing { settings_of (map string_bytes words.now.items) ≡ None → (src.new ≡ src.old) × (out.new ≡ out.old) × (engine.new ≡ engine.old) × (steps.new ≡ steps.old) }
 
     // 3: this is the script's first faulty line, what was taken is the transcript of the lines before it, and the tree is theirs.
     ensures bad_line { result ≡ 3 → (fault : LineFault)
@@ -168,7 +169,7 @@ pub fn palm<R: Threads + Sync, S: Source, O: Sink, E: Sink, G: Gate + Sync, L: L
     // 5 and 6: what was taken begins what all that was read would give.
     ensures stopped { (result ≡ 5) ⊎ (result ≡ 6) → IfSome (settings_of (map string_bytes words.now.items)) (λ settings. (read : List ℕ) × Consumes (S.left src.old) (S.left src.new) read × IsStopped settings.mode settings read (S.left src.new) (O.taken out.old) (O.taken out.new)) }
 
-    // 7: the source has a byte too many, and one more was read than is taken of it. What was taken is the transcript of the lines
+    // 7: the source has a byte too many, and it was read, one more than is taken of it. What was taken is the transcript of the lines
     // before, and the tree is theirs.
     ensures past { result ≡ 7 → HasReadPast (S.left src.old) (S.left src.new) }
     ensures long { result ≡ 7 → IfSome (settings_of (map string_bytes words.now.items)) (λ settings. IsLong settings.mode settings (S.left src.old) (O.taken out.old) (O.taken out.new) (tree_in engine.new.tree)) }
@@ -180,7 +181,11 @@ pub fn palm<R: Threads + Sync, S: Source, O: Sink, E: Sink, G: Gate + Sync, L: L
 
     // `gen` reads nothing, and `deck` writes and runs nothing where it ends with 4, 7 or 8.
     ensures unread { IfSome (settings_of (map string_bytes words.now.items)) (λ settings. settings.mode ≡ Mode.Gen → src.new ≡ src.old) }
-    ensures untouched { (result ≡ 4) ⊎ (result ≡ 7) ⊎ (result ≡ 8) → IfSome (settings_of (map string_bytes words.now.items)) (λ settings. settings.mode ≡ Mode.Deck → (out.new ≡ out.old) × (engine.new ≡ engine.old)) }
+    ensures untouched { (result ≡ 4) ⊎ (result ≡ 7) ⊎ (result ≡ 8) → IfSome (settings_of (map string_bytes words.now.items)) (λ settings. settings.mode ≡ Mode.Deck → (out.new ≡ out.old) × (engine.new ≡ engine.old) × (steps.new ≡ steps.old)) }
+
+    // The sink counted a fault at 5 alone, and the source none where it was read as far as it is taken.
+    ensures kept { result ≢ 5 → O.faults out.new ≡ O.faults out.old }
+    ensures unfailed { (result ≡ 0) ⊎ (result ≡ 7) ⊎ (result ≡ 8) → S.faults src.new ≡ S.faults src.old }
 
     // Where the words are of the form and nothing failed, each mode has these ends alone.
     ensures complete { IfSome (settings_of (map string_bytes words.now.items)) (λ settings.

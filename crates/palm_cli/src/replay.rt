@@ -1,5 +1,5 @@
 // The mode `replay`: a script is read, run in the order of its lines, and its transcript written.
-ghost use Rattle.std.specs.Prelude.{◌≡◌, ◌+◌, ◌≤◌, [], length, sum_by, OnOk, OnErr, IsErrOf};
+ghost use Rattle.std.specs.Prelude.{◌≡◌, ◌+◌, ◌≤◌, [], length, sum_by, IfOk, OnOk, OnErr, IsErrOf};
 ghost use Rattle.std.specs.Io.KnownBytes.{Appends};
 ghost use Rattle.std.proofs.Common.{zero};
 ghost use Rattle.palm_base.specs.Lawful.{IsLawful};
@@ -10,13 +10,14 @@ ghost use Rattle.palm_words.specs.Settings.{AreWithin};
 ghost use Rattle.palm_cli.specs.Costs.{run_cost};
 ghost use Rattle.palm_words.specs.declared.settings.Mode.{Mode};
 ghost use Rattle.palm_cli.specs.Ends.{EndsIn};
+ghost use Rattle.palm_cli.specs.Reads.{IsReadFrom, IsScript};
 ghost use Rattle.palm_cli.specs.Stops.{ended_by};
 ghost use Rattle.palm_cli.specs.Streams.{AppendsFront, text_to};
 
 use crate::run::{run_sections, write_ending};
 use crate::status::Status;
 use crate::stop::Stop;
-use palm_base::Steps;
+use palm_base::{NoMemory, Steps};
 use palm_engine::Engine;
 use palm_script::{
     InputEnd, LineFault, MOST_BYTES, Script, Sink, Source, laws, read_input, read_script,
@@ -26,6 +27,13 @@ use palm_words::Settings;
 use std::alloc::Global;
 use std::sync::ledger::Ledger;
 use std::thread::Threads;
+
+// A script that was read, and how the program ends where all of it is run.
+#[derive(Drop)]
+struct ReadScript {
+    script: Script,
+    end: Status,
+}
 
 // How the program ends where all was run that was read of a script.
 fn end_by(fault: Option<LineFault>, end: InputEnd) -> Status
@@ -37,6 +45,19 @@ fn end_by(fault: Option<LineFault>, end: InputEnd) -> Status
         (None, InputEnd::Failed) => Status::ReadFault,
         (None, InputEnd::Long) => Status::TooLong,
     }
+}
+
+// Reads a script. Its bytes are given back at once, since what they say is all that is run.
+fn read_lines<S: Source>(alloc: Global, src: &mut S) -> Result<ReadScript, NoMemory>
+    ensures ok { IfOk result (IsScript (S.left src.old) (S.left src.new) (S.faults src.old) (S.faults src.new)) }
+    ensures err { OnErr result (IsReadFrom (S.left src.old) (S.left src.new)) }
+    ensures few { IfOk result (λ read. length read.script.entries.items ≤ MOST_BYTES) }
+    ensures within { IfOk result (λ read. sum_by (λ end. end.calls) read.script.ends.items ≤ length read.script.entries.items) }
+{
+    let input = read_input(alloc, src)?;
+    let script = read_script(alloc, &input.bytes, input.end.is_whole())?;
+    let end = end_by(script.fault, input.end);
+    Ok(ReadScript { script, end })
 }
 
 // Runs a script on a new engine, and writes its transcript, with what stands at the end where it is finished.
@@ -61,6 +82,7 @@ fn run_script<R: Threads + Sync, O: Sink, G: Gate + Sync, L: Ledger>(
     ensures ticks { OnOk result (steps.new ≤ steps.old + run_cost (sections_by settings.now.batch script.now.entries.items script.now.ends.items)) }
     ensures lawful { IsLawful (tree_in engine.new.tree) }
     ensures kept { OnOk result (O.faults out.new ≡ O.faults out.old) }
+    ensures unfailed { IsErrOf result Stop.Memory → O.faults out.new ≡ O.faults out.old }
     ensures cause { IsErrOf result Stop.Write → Rose (O.faults out.old) (O.faults out.new) }
 {
     let mut text = Vec::new(alloc);
@@ -99,18 +121,22 @@ pub fn replay<R: Threads + Sync, S: Source, O: Sink, G: Gate + Sync, L: Ledger>(
     ensures lawful { IsLawful (tree_in engine.new.tree) }
 {
     laws::faults_stand();
-    let Ok(input) = read_input(alloc, src) else {
+    let Ok(read) = read_lines(alloc, src) else {
         return Status::NoMemory;
     };
-    let Ok(script) = read_script(alloc, &input.bytes, input.end.is_whole()) else {
-        return Status::NoMemory;
-    };
-    let end = end_by(script.fault, input.end);
-    let finished = end.is_done();
+    let finished = read.end.is_done();
     if let Err(stop) = run_script(
-        rt, alloc, settings, engine, &script, finished, out, gate, steps,
+        rt,
+        alloc,
+        settings,
+        engine,
+        &read.script,
+        finished,
+        out,
+        gate,
+        steps,
     ) {
         return Status::from(stop);
     }
-    end
+    read.end
 }

@@ -99,6 +99,7 @@ fn write_batch<R: Threads + Sync, O: Sink, G: Gate + Sync, L: Ledger>(
     ensures ticks { OnOk result (steps.new ≤ steps.old + cost_on (tree_in engine.old.tree) batch.now) }
     ensures lawful { IsLawful (tree_in engine.new.tree) }
     ensures kept { OnOk result (O.faults out.new ≡ O.faults out.old) }
+    ensures unfailed { IsErrOf result Stop.Memory → O.faults out.new ≡ O.faults out.old }
     ensures cause { IsErrOf result Stop.Write → Rose (O.faults out.old) (O.faults out.new) }
 {
     text.clear();
@@ -130,6 +131,7 @@ fn run_batches<R: Threads + Sync, O: Sink, G: Gate + Sync, L: Ledger>(
     ensures ticks { OnOk result (steps.new ≤ steps.old + batches_cost (tree_in engine.old.tree) calls.now (cut_by settings.now.batch (length calls.now))) }
     ensures lawful { IsLawful (tree_in engine.new.tree) }
     ensures kept { OnOk result (O.faults out.new ≡ O.faults out.old) }
+    ensures unfailed { IsErrOf result Stop.Memory → O.faults out.new ≡ O.faults out.old }
     ensures cause { IsErrOf result Stop.Write → Rose (O.faults out.old) (O.faults out.new) }
 {
     let most = settings.batch as usize;
@@ -166,6 +168,7 @@ fn run_section<R: Threads + Sync, O: Sink, G: Gate + Sync, L: Ledger>(
     ensures ticks { OnOk result (steps.new ≤ steps.old + batches_cost (tree_in engine.old.tree) calls.now (cut_by settings.now.batch (length calls.now))) }
     ensures lawful { IsLawful (tree_in engine.new.tree) }
     ensures kept { OnOk result (O.faults out.new ≡ O.faults out.old) }
+    ensures unfailed { IsErrOf result Stop.Memory → O.faults out.new ≡ O.faults out.old }
     ensures cause { IsErrOf result Stop.Write → Rose (O.faults out.old) (O.faults out.new) }
 {
     run_batches(rt, settings, n, engine, calls, out, gate, steps, text)?;
@@ -201,6 +204,7 @@ pub fn run_sections<R: Threads + Sync, O: Sink, G: Gate + Sync, L: Ledger>(
     ensures ticks { OnOk result (steps.new ≤ steps.old + sections_cost (tree_in engine.old.tree) (sections_by settings.now.batch entries.now ends.now)) }
     ensures lawful { IsLawful (tree_in engine.new.tree) }
     ensures kept { OnOk result (O.faults out.new ≡ O.faults out.old) }
+    ensures unfailed { IsErrOf result Stop.Memory → O.faults out.new ≡ O.faults out.old }
     ensures cause { IsErrOf result Stop.Write → Rose (O.faults out.old) (O.faults out.new) }
 {
     let mut rest = entries;
@@ -231,6 +235,7 @@ pub fn write_ending<O: Sink>(
     ensures text { OnOk result (Appends (O.taken out.old) (O.taken out.new) (ending settings.now.dump (come_to calls (tree_in tree.now)))) }
     ensures front { OnErr result (AppendsFront (O.taken out.old) (O.taken out.new) (ending settings.now.dump (come_to calls (tree_in tree.now)))) }
     ensures kept { OnOk result (O.faults out.new ≡ O.faults out.old) }
+    ensures unfailed { IsErrOf result Stop.Memory → O.faults out.new ≡ O.faults out.old }
     ensures cause { IsErrOf result Stop.Write → Rose (O.faults out.old) (O.faults out.new) }
 {
     text.clear();

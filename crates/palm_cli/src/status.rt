@@ -94,14 +94,15 @@ fn tell_made<E: Sink>(err: &mut E, line: Result<String, NoMemory>, status: Statu
     status
 }
 
-/// Tells the error stream how a run ended, and answers how it did. Where memory is refused for the line of a fault, the
-/// run ends for want of memory.
+/// Tells the error stream how a run ended, and answers how it did. Of a run that went well it tells nothing. Where memory is
+/// refused for the line of a fault, the run ends for want of memory.
 pub fn tell<E: Sink>(alloc: Global, err: &mut E, status: Status) -> Status
     ensures same { (result ≡ status) ⊎ ((result ≡ Status.NoMemory) × (names_fault status ≡ true)) }
+    ensures quiet { result ≡ Status.Done → err.new ≡ err.old }
     ensures told { Told (E.taken err.old) (E.taken err.new) (E.faults err.old) (E.faults err.new) (status_text result) }
 {
     match status {
-        Status::Done => tell_line(err, b""),
+        Status::Done => {}
         Status::Usage => tell_line(err, b"palm: usage\n"),
         Status::ReadFault => tell_line(err, b"palm: read fault\n"),
         Status::WriteFault => tell_line(err, b"palm: write fault\n"),

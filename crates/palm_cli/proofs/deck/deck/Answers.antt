@@ -22,5 +22,5 @@ returns-clause-end g c =
     let read = rw (← c.as_slice.ensures) at c.in-Ok.ensures.ok in
     let ran = c.in-Err-run_deck.ensures in
     rw c.from.ensures (
-    deck_stops c.args.settings.now c.in-Err-run_deck.stop _ c.as_slice.result.now (tree_in c.run_deck.new.engine.tree) read ran.front (λ is. ran.cause (ap Err is))
+    deck_stops c.args.settings.now c.in-Err-run_deck.stop _ c.as_slice.result.now (tree_in c.run_deck.new.engine.tree) read ran.front (λ is. ran.cause (ap Err is)) (λ is. ran.unfailed (ap Err is))
     )

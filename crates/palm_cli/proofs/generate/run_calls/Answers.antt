@@ -32,7 +32,7 @@ add-requires g c =
     let made : c.deref.result.now ≡ history_from k c.loop-at.state c.loop-at.at =
     c.deref.ensures.value ∙ c.in_ok-state.ensures.ok ∙ ap (λ l. l ++ history_from k c.loop-at.state c.loop-at.at) c.clear.ensures.items in
     let many : length c.deref-in-loop-at.result.now ≡ k =
-    ap length c.deref-in-loop-at.ensures.value ∙ c.in_ok-replies.ensures.many ∙ ap length made ∙ c.histories_are_long.ensures k c.loop-at.state c.loop-at.at in
+    ap length c.deref-in-loop-at.ensures.value ∙ c.in_ok-replies.ensures.same ∙ ap length made ∙ c.histories_are_long.ensures k c.loop-at.state c.loop-at.at in
     record { fits = omega (arith, many, c.min-count.ensures, c.loop-at.invariant.calls, c.loop-at.invariant.few, c.requires.settings.few_calls) }
 
 pub loop-at-preserved : goal.loop-at-preserved
@@ -53,7 +53,7 @@ loop-at-preserved g c =
     let made : batch ≡ history_from k c.loop-at.state c.loop-at.at =
     c.deref.ensures.value ∙ c.in_ok-state.ensures.ok ∙ ap (λ l. l ++ history_from k c.loop-at.state c.loop-at.at) c.clear.ensures.items in
     let many : length c.deref-in-loop-at.result.now ≡ k =
-    ap length c.deref-in-loop-at.ensures.value ∙ c.in_ok-replies.ensures.many ∙ ap length made ∙ c.histories_are_long.ensures k c.loop-at.state c.loop-at.at in
+    ap length c.deref-in-loop-at.ensures.value ∙ c.in_ok-replies.ensures.same ∙ ap length made ∙ c.histories_are_long.ensures k c.loop-at.state c.loop-at.at in
     let front : batch ≡ take k rest = made ∙ first_calls c.histories_join.ensures c.histories_are_long.ensures n k c.loop-at.state c.loop-at.at few in
     let fewer : settings.calls - (c.loop-at.at + k) ≡ n - k = omega arith in
     let back : left ≡ drop k rest =

@@ -1,6 +1,6 @@
 use Rattle.std.proofs.Common.{sym, ap, ◌∙◌}
 use Rattle.palm_cli.specs.Statuses.{status_text}
-use Rattle.palm_cli.proofs.Statuses.{done_ended, line_ended, read_ended, write_ended, long_ended, row_ended, stop_ended, usage_ended, refused_ended, complete_ended}
+use Rattle.palm_cli.proofs.Statuses.{done_ended, line_ended, read_ended, write_ended, long_ended, row_ended, stop_ended, usage_ended, refused_ended, written_ended, unfailed_ended, is_of_code, complete_ended}
 use Rattle.palm_cli.proofs.palm.palm.Goals as goal
 
 pub returns-clause-good : goal.returns-clause-good
@@ -9,11 +9,8 @@ returns-clause-good g c = λ is. (done_ended _ _ _ _ c.run_and_tell-status.ensur
 pub returns-clause-whole : goal.returns-clause-whole
 returns-clause-whole g c = λ is. (done_ended _ _ _ _ c.run_and_tell-status.ensures.end (sym c.code.ensures ∙ is)).1
 
-pub returns-clause-kept : goal.returns-clause-kept
-returns-clause-kept g c = λ is. (done_ended _ _ _ _ c.run_and_tell-status.ensures.end (sym c.code.ensures ∙ is)).2
-
 pub returns-clause-ticks : goal.returns-clause-ticks
-returns-clause-ticks g c = λ is. (done_ended _ _ _ _ c.run_and_tell-status.ensures.end (sym c.code.ensures ∙ is)).3
+returns-clause-ticks g c = λ is. (done_ended _ _ _ _ c.run_and_tell-status.ensures.end (sym c.code.ensures ∙ is)).2
 
 pub returns-clause-usage : goal.returns-clause-usage
 returns-clause-usage g c = λ is. usage_ended _ _ _ _ c.run_and_tell-status.ensures.end (sym c.code.ensures ∙ is)
@@ -51,6 +48,17 @@ returns-clause-bad_row g c = λ is.
 
 pub returns-clause-untouched : goal.returns-clause-untouched
 returns-clause-untouched g c = λ is. c.run_and_tell-status.ensures.untouched (rw (← c.code.ensures) is)
+
+pub returns-clause-quiet : goal.returns-clause-quiet
+returns-clause-quiet g c = λ is. c.run_and_tell-status.ensures.quiet (is_of_code 0 _ (sym c.code.ensures ∙ is))
+
+pub returns-clause-kept : goal.returns-clause-kept
+returns-clause-kept g c = λ other.
+    written_ended _ _ _ _ c.run_and_tell-status.ensures.end (λ none. ap g.O.Sink.faults (c.run_and_tell-status.ensures.nothing none).1) (λ is. other (c.code.ensures ∙ is))
+
+pub returns-clause-unfailed : goal.returns-clause-unfailed
+returns-clause-unfailed g c = λ is.
+    unfailed_ended _ _ _ _ c.run_and_tell-status.ensures.end (λ none. ap g.S.Source.faults (c.run_and_tell-status.ensures.nothing none).0) (rw (← c.code.ensures) is)
 
 pub returns-clause-complete : goal.returns-clause-complete
 returns-clause-complete g c = complete_ended _ _ _ _ _ c.code.ensures c.run_and_tell-status.ensures.end
