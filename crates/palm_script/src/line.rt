@@ -12,6 +12,9 @@ use std::fmt;
 /// The greatest number of a caller.
 pub const MOST_CALLER: u32 = 63;
 
+/// How many callers there may be: those with the numbers from 0 to `MOST_CALLER`.
+pub(crate) const MOST_CALLERS: usize = MOST_CALLER as usize + 1;
+
 /// The most bytes of a line, without its ending.
 pub const MOST_LINE: usize = 1_024;
 

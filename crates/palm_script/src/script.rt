@@ -3,7 +3,7 @@ ghost use Rattle.std.specs.Prelude.{◌≡◌, ◌≤◌, ◌<◌, ◌+◌, ◌�
 ghost use Rattle.palm_script.specs.Script.{is_feed, without_return as without, lines_of, next_entry, script_of, AreCounts, Says};
 
 use crate::input::MOST_BYTES;
-use crate::line::{Line, LineFault, MOST_CALLER, read_line};
+use crate::line::{Line, LineFault, MOST_CALLER, MOST_CALLERS, read_line};
 use palm_base::{Call, Entry, NoMemory};
 use std::alloc::Global;
 
@@ -60,7 +60,7 @@ fn next_line(text: &[u8], whole: bool) -> Option<(&[u8], &[u8])>
 // Adds a caller's next call. `counts` has the number of each caller's calls so far.
 fn add_entry(
     entries: &mut Vec<Entry>,
-    counts: &mut [u64; 64],
+    counts: &mut [u64; MOST_CALLERS],
     caller: u32,
     call: Call,
 ) -> Result<(), NoMemory>
@@ -105,7 +105,7 @@ pub fn read_script(alloc: Global, text: &[u8], whole: bool) -> Result<Script, No
 {
     let mut entries = Vec::new(alloc);
     let mut ends = Vec::new(alloc);
-    let mut counts = [0u64; 64];
+    let mut counts = [0u64; MOST_CALLERS];
     let mut calls = 0u32;
     let mut line = 1u64;
     let mut rest = text;

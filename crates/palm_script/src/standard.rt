@@ -47,8 +47,8 @@ impl<R: Read> Source for StdSource<R> {
 }
 
 /// A sink over a writer of std, as standard output. Each write is flushed. It tells no bytes, and raises its count of
-/// faults at each error and where the writer takes nothing of a part that isn't empty. Contracts see the writer and the
-/// count.
+/// faults at each error and where the writer takes nothing of a part that isn't empty. Where flushing fails, the writer may
+/// have taken a front of the part. Contracts see the writer and the count.
 #[derive(Debug, Drop)]
 pub struct StdSink<W> {
     inner: W,
