@@ -126,6 +126,9 @@ fn run_and_tell<R: Threads + Sync, S: Source, O: Sink, E: Sink, G: Gate + Sync, 
 /// | 6 | memory was refused; what was taken begins what the mode writes |
 /// | 7 | the source has more than 64 MiB; the transcript of the lines that ended within them was taken, and in `deck` nothing |
 /// | 8 | a record of the deck has a fault; nothing was written |
+///
+/// Of the causes of 3, 4 and 7 the one counts that stands first in the source. The lines before it are run and written first, so
+/// that there is 5 where `out` fails at these. Memory may be refused at any moment.
 pub fn palm<R: Threads + Sync, S: Source, O: Sink, E: Sink, G: Gate + Sync, L: Ledger>(
     rt: &R,
     alloc: Global,
@@ -169,8 +172,8 @@ pub fn palm<R: Threads + Sync, S: Source, O: Sink, E: Sink, G: Gate + Sync, L: L
     // 5 and 6: what was taken begins what all that was read would give.
     ensures stopped { (result ≡ 5) ⊎ (result ≡ 6) → IfSome (settings_of (map string_bytes words.now.items)) (λ settings. (read : List ℕ) × Consumes (S.left src.old) (S.left src.new) read × IsStopped settings.mode settings read (S.left src.new) (O.taken out.old) (O.taken out.new)) }
 
-    // 7: the source has a byte too many, and it was read, one more than is taken of it. What was taken is the transcript of the lines
-    // before, and the tree is theirs.
+    // 7: the source has a byte too many, and it was read, one more than is taken of it. What was taken is the transcript of the
+    // lines before, and the tree is theirs.
     ensures past { result ≡ 7 → HasReadPast (S.left src.old) (S.left src.new) }
     ensures long { result ≡ 7 → IfSome (settings_of (map string_bytes words.now.items)) (λ settings. IsLong settings.mode settings (S.left src.old) (O.taken out.old) (O.taken out.new) (tree_in engine.new.tree)) }
 
