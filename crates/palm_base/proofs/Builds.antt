@@ -6,7 +6,7 @@ use Rattle.std.proofs.lemmas.Bool.{cases_lt, le-leb}
 use Rattle.palm_base.specs.Table.{after_all, IsTable}
 use Rattle.palm_base.specs.Tree.{Subtree, Tree}
 use Rattle.palm_base.specs.Cut.{cut}
-use Rattle.palm_base.specs.Pass.{Outcome, pass, below, leaf_outcome, inner_outcome, leaves_of, node_over, top, top_in, base_pass, passed_tree, is_edit, set_of, batch_tree}
+use Rattle.palm_base.specs.Pass.{Outcome, pass, below, leaf_outcome, inner_outcome, leaves_of, node_over, top, top_in, base_pass, passed_tree, is_edit, set_of, orphans_of, batch_tree}
 use Rattle.palm_base.specs.Lawful.{HasFromTo, Rising, Sound, InOrder, IsLawful, next_low}
 use Rattle.palm_base.specs.declared.bounds.TheConstants.{LEAST_LEAF_ROWS, MOST_LEAF_ROWS, LEAST_CHILDREN, MOST_CHILDREN}
 use Rattle.palm_base.proofs.Cuts.{cut_none, few_are_one_piece, pieces_join}
@@ -67,6 +67,20 @@ tree_itself (suc n, children) lawful =
     let own = children_themselves n (λ low l h node s. node_itself n low l h node s) 0 lawful.0 children lawful.1.2 in
     let pieces : (base_pass (suc n) children []).pieces ≡ children = ap (λ (o : Outcome n). o.pieces) own in
     ap (top n) pieces ∙ top_few n children lawful.1.0.0 lawful.1.0.1 ∙ ap (λ (c : Subtree (suc n)). (suc n, c)) (node_over_same n children lawful.1.1)
+
+-- Nothing is loose then.
+none_loose : (tree : Tree) → IsLawful tree → (base_pass tree.0 tree.1 []).loose ≡ []
+none_loose (zero, rows) lawful = refl
+none_loose (suc n, children) lawful =
+    ap (λ (o : Outcome n). o.loose) (children_themselves n (λ low l h node s. node_itself n low l h node s) 0 lawful.0 children lawful.1.2)
+
+-- So it stays as it is in a batch of no calls.
+pub batch_of_none : (tree : Tree) → IsLawful tree → batch_tree tree [] ≡ tree
+batch_of_none tree lawful =
+    let orphans : orphans_of tree [] ≡ [] = ap (λ (rows : List Row). after_all [] (map set_of rows)) (none_loose tree lawful) in
+    ap (λ (rows : List Row). passed_tree (passed_tree tree []) (map set_of rows)) orphans
+    ∙ ap (λ (t : Tree). passed_tree t []) (tree_itself tree lawful)
+    ∙ tree_itself tree lawful
 
 -- ---- the tree of sorted rows
 

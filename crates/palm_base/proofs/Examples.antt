@@ -141,7 +141,11 @@ rate-after = refl
 rate-absent : answer rows (Rate (2 ∷ [])) ≡ Absent
 rate-absent = refl
 
--- Both ends of a List are included, and the limit cuts off the last rows.
+-- Both ends of a List are included: from 10 to 100 it has two rows where it may have three, and that of 1000 is past its end.
+list-ends : answer rows (Listing (1 ∷ 0 ∷ []) (1 ∷ 0 ∷ 0 ∷ []) 3) ≡ Rows (row (1 ∷ 0 ∷ []) 2 ∷ row (1 ∷ 0 ∷ 0 ∷ []) 3 ∷ [])
+list-ends = refl
+
+-- The limit cuts off the last rows.
 list-answer : answer rows (Listing (1 ∷ 0 ∷ []) (1 ∷ 0 ∷ 0 ∷ 0 ∷ []) 2) ≡ Rows (row (1 ∷ 0 ∷ []) 2 ∷ row (1 ∷ 0 ∷ 0 ∷ []) 3 ∷ [])
 list-answer = refl
 

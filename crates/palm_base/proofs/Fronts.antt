@@ -3,9 +3,9 @@ use Rattle.std.proofs.Common.{◌≡◌, ℕ, zero, suc, ◌+◌, ◌-◌, ◌*�
 use Rattle.std.specs.Bool.{Decides}
 use Rattle.std.proofs.Math.Nat.{pow-suc, one-le-pow, mul_assoc, add-mul, div-eq_of_lt, mul-add-div_right, mod-eq_of_lt}
 use Rattle.std.proofs.lemmas.Bool.Decides.{same_from_decides, Decides-eqb, Decides-and, Decides-like}
-use Rattle.std.proofs.lemmas.Bool.{false≢true}
+use Rattle.std.proofs.lemmas.Bool.{false≢true, le-ltb, eq-eqb}
 use Rattle.std.proofs.lemmas.Nat.{div-mul-add, pow-add}
-use Rattle.palm_base.specs.Prefix.{AreDigits, IsPrefix, begins}
+use Rattle.palm_base.specs.Prefix.{AreDigits, IsPrefix, begins, comes_before}
 use Rattle.palm_base.specs.Key.{packed, key, groups}
 use Rattle.palm_base.proofs.Keys.{packed-room, packed-fits, groups-packed, hex, group-bits}
 
@@ -113,3 +113,10 @@ begins-long (d ∷ ps) (e ∷ ds) h = by (d == e) (begins-long ps ds (omega arit
     by : (b : Bool) → false ≡ begins ps ds → false ≡ (b && begins ps ds)
     by true rest = rest
     by false rest = refl
+
+-- A shorter front of a list comes before a longer one.
+pub fronts_rise : (m n : ℕ) (number : List ℕ) → m < n → n ≤ length number → comes_before (take m number) (take n number) ≡ true
+fronts_rise m zero number less few = absurd (omega arith)
+fronts_rise m (suc n) [] less few = absurd (omega arith)
+fronts_rise zero (suc n) (e ∷ number) less few = refl
+fronts_rise (suc m) (suc n) (e ∷ number) less few = rw (le-ltb e e (omega arith), eq-eqb e e refl) (fronts_rise m n number (omega arith) (omega arith))

@@ -12,6 +12,10 @@ pub mod FromKey
 pub mod FrontSearch
 pub mod Fronts
 pub mod Histories
+pub mod KeptAnswers
+pub mod KeptLists
+pub mod KeptRates
+pub mod KeptRows
 pub mod KeyCounts
 pub mod KeyOrder
 pub mod Keys
@@ -20,6 +24,7 @@ pub mod LevelCounts
 pub mod LiteralPasses
 pub mod LiteralPlaces
 pub mod LiteralTrees
+pub mod LoneEdits
 pub mod Lows
 pub mod Numerals
 pub mod OrphanSorts

@@ -2,8 +2,8 @@
 use Rattle.std.proofs.Common.{◌≡◌, ℕ, zero, suc, ◌<◌, ◌≤◌, List, [], ◌∷◌, ◌++◌, length, refl, arith}
 use Rattle.std.specs.List.{AllByRecursion}
 use Rattle.std.proofs.lemmas.List.{append-nil, length-append}
-use Rattle.palm_base.specs.Table.{row_key}
-use Rattle.palm_base.specs.Tree.{Subtree, rows_in, rows_of}
+use Rattle.palm_base.specs.Table.{row_key, IsTable}
+use Rattle.palm_base.specs.Tree.{Subtree, Tree, rows_in, rows_of}
 use Rattle.palm_base.specs.Pass.{rows_under}
 use Rattle.palm_base.specs.Lawful.{RowIsIn, Rising, Sound, next_low, InOrder, Root, IsLawful}
 use Rattle.palm_base.specs.Literal.{LowsRise, RowsArePlaced, AreSeparated, IsNode, IsRoot, IsLawfulLiterally}
@@ -135,11 +135,15 @@ root_to zero h rows root = root
 root_to (suc n) h children root =
     ((root.0, separated n 0 h children root.1 root.2, each_node n (sound_node n) 0 h children root.2), in_order_rises n 0 h children root.2)
 
+-- The rows of a lawful tree are a table.
+pub lawful_table : (tree : Tree) → IsLawful tree → IsTable (rows_of tree)
+lawful_table tree lawful = rising_is_table 0 lawful.0 (rows_of tree) (root_to tree.0 lawful.0 tree.1 lawful.1).1
+
 pub law_is_literal : LawIsLiteral
 law_is_literal tree = (to, from)
   where
     to : IsLawful tree → IsLawfulLiterally tree
-    to lawful = let root = root_to tree.0 lawful.0 tree.1 lawful.1 in record { rows = rising_is_table 0 lawful.0 (rows_of tree) root.1; nodes = root.0 }
+    to lawful = record { rows = lawful_table tree lawful; nodes = (root_to tree.0 lawful.0 tree.1 lawful.1).0 }
 
     from : IsLawfulLiterally tree → IsLawful tree
     from lawful = (key_bound (rows_of tree), root_from tree.0 (key_bound (rows_of tree)) tree.1 lawful.nodes (table_rises (rows_of tree) lawful.rows))

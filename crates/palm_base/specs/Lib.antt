@@ -7,6 +7,8 @@ pub mod Key
 pub mod Lawful
 pub mod Laws
 pub mod Literal
+pub mod LookLaws
+pub mod LookUps
 pub mod Lows
 pub mod Numbers
 pub mod Pass

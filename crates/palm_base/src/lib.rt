@@ -7,6 +7,7 @@ mod call;
 mod digits;
 pub mod laws;
 mod list;
+pub mod look_laws;
 mod memory;
 mod number;
 mod row;
