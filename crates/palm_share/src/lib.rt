@@ -4,8 +4,10 @@
 
 mod gate;
 mod share;
+mod shares;
 #[cfg(test)]
 mod tests;
 
 pub use gate::{Gate, OpenGate, Who};
 pub use share::{Job, MOST_WORKERS, each_mut};
+pub use shares::cut;

@@ -131,3 +131,52 @@ fn no_items_are_no_work(rt: HostRuntime) -> Result<(), Fail> {
     assert_eq!(rt; gate.count.load(Ordering::SeqCst), 0);
     Ok(())
 }
+
+// A job that counts that it was run.
+#[derive(Drop)]
+struct Counted<'a> {
+    runs: &'a AtomicU64,
+}
+
+impl Job for Counted<'_> {
+    ghost ready = { λ _. Unit {0} };
+
+    ghost ran = { λ _ _. Unit {0} };
+
+    fn run(&mut self) {
+        self.runs.fetch_add(1, Ordering::SeqCst);
+    }
+}
+
+// Counts the turns at which more or fewer jobs were run than stand before it.
+#[derive(Drop)]
+struct Turns<'a> {
+    runs: &'a AtomicU64,
+    wrong: AtomicU64,
+}
+
+impl Gate for Turns<'_> {
+    fn pass(&self, _who: Who, turn: u64) {
+        if self.runs.load(Ordering::SeqCst) != turn {
+            self.wrong.fetch_add(1, Ordering::SeqCst);
+        }
+    }
+}
+
+#[test]
+fn the_gate_is_passed_before_its_item(rt: HostRuntime) -> Result<(), Fail> {
+    let runs = AtomicU64::new(0);
+    let gate = Turns {
+        runs: &runs,
+        wrong: AtomicU64::new(0),
+    };
+    let mut items = [
+        Some(Counted { runs: &runs }),
+        Some(Counted { runs: &runs }),
+        Some(Counted { runs: &runs }),
+    ];
+    each_mut(&rt, rt.alloc(), &mut items, 1, &gate);
+    assert_eq!(rt; gate.wrong.load(Ordering::SeqCst), 0);
+    assert_eq!(rt; runs.load(Ordering::SeqCst), 3);
+    Ok(())
+}

@@ -1,0 +1,2 @@
+mod EvenShares
+pub mod RunItems
