@@ -1,5 +1,5 @@
 -- Worked examples of the definitions, which the checker computes.
-use Rattle.std.proofs.Common.{◌≡◌, ℕ, zero, suc, false, true, List, [], ◌∷◌, refl, Some, None, lit<}
+use Rattle.std.proofs.Common.{◌≡◌, ℕ, zero, suc, Bool, false, true, List, [], ◌∷◌, refl, Some, None, lit<}
 use Rattle.std.specs.Prelude.{IsSome}
 use Rattle.std.specs.List.{Contains, IsDistinct}
 use Rattle.palm_base.specs.declared.row.Row.{Row}
@@ -10,7 +10,11 @@ use Rattle.palm_arena.specs.declared.place.Place.TheVariants.{Empty, Lent, Holds
 use Rattle.palm_arena.specs.declared.shape.Shape.{Shape}
 use Rattle.palm_arena.specs.ArenaState.{place_at, node_at, with_place, undone}
 use Rattle.palm_arena.specs.Journal.{undo}
-use Rattle.palm_arena.specs.Reads.{map_of, reads, ids_of, IsWhole}
+use Rattle.palm_arena.specs.Reads.{map_of, reads, ids_of, same_place, IsWhole}
+use Rattle.palm_arena.specs.Cells.{HasCells}
+use Rattle.palm_arena.specs.Placed.{Placed, cells_of}
+use Rattle.palm_arena.specs.Standing.{untouched_cells}
+use Rattle.palm_arena.proofs.CellLists.{owned_front}
 
 abbrev id : ℕ → NodeId
 id place = record { place = place }
@@ -97,3 +101,29 @@ whole-tree = record {
   once = ((refl, (refl, tt)), ((refl, tt), (tt, tt)));
   met = live_is_met;
 }
+
+-- ---- untouched nodes
+
+-- The tree with its ids, of which the leaf at 2 is touched.
+abbrev root_node : Placed 1
+root_node = (id 0, (0, (id 1, one)) ∷ (20, (id 2, two)) ∷ [])
+
+abbrev touches_second : NodeId → Bool
+touches_second other = same_place (id 2) other
+
+-- The leaf at 1 is the one untouched node: the root is over a touched leaf.
+untouched-first : untouched_cells touches_second 1 root_node ≡ (id 1, Leaf one) ∷ []
+untouched-first = refl
+
+untouched-all : untouched_cells (λ other. false) 1 root_node ≡ cells_of 1 root_node
+untouched-all = refl
+
+-- A map that has the leaf's rows at 3 in its stead reads as the same tree, and holds no untouched node.
+abbrev copied_places : List Place
+copied_places = Holds (Inner (record { children = id 3 ∷ id 2 ∷ []; separators = 20 ∷ [] })) ∷ Empty ∷ Holds (Leaf two) ∷ Holds (Leaf one) ∷ []
+
+reads-copied : reads (map_of copied_places) 1 (id 0) ≡ Some ((0, one) ∷ (20, two) ∷ [])
+reads-copied = refl
+
+copied-gone : ¬ HasCells (map_of copied_places) (untouched_cells touches_second 1 root_node)
+copied-gone has = let gone : None ≡ Some (Leaf one) = (owned_front (map_of copied_places) (id 1) (Leaf one) has.0 has.1).0 in absurd cc

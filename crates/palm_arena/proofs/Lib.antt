@@ -19,3 +19,4 @@ pub mod OwnedTrees
 pub mod RouteSteps
 pub mod TakenLevels
 pub mod Raised
+pub mod Untouched

@@ -45,6 +45,11 @@ found_at id (cell ∷ cells) = both (found_if (same_place cell.0 id) cell.1) (fo
 abbrev pub Owns : (NodeId → Option Node) → List Cell → Type 0
 Owns map cells = (id : NodeId) → found_at id cells ≡ found (map id)
 
+-- A map holds these cells, each once, and may hold others. So one of a at 0 and b at 1 holds (1, b), and neither (1, a) nor
+-- (1, b), (1, b).
+abbrev pub HasCells : (NodeId → Option Node) → List Cell → Type 0
+HasCells map cells = (others : List Cell) × Owns map (cells ++ others)
+
 -- The same cells in another order. So (0, a), (1, b) and (1, b), (0, a) are.
 abbrev pub SameCells : List Cell → List Cell → Type 0
 SameCells cells others = (id : NodeId) → found_at id cells ≡ found_at id others

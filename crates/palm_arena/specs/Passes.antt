@@ -17,10 +17,10 @@ use Rattle.palm_node.specs.declared.node.Node.{Node}
 use Rattle.palm_node.specs.declared.change.Changes.{Changes}
 use Rattle.palm_arena.specs.declared.shape.Shape.{Shape}
 use Rattle.palm_arena.specs.Reads.{same_place}
-use Rattle.palm_arena.specs.Cells.{Cell, Owns}
+use Rattle.palm_arena.specs.Cells.{Cell, Owns, HasCells}
 use Rattle.palm_arena.specs.Placed.{PlacedTree, value_in, value_of, cells_of}
 use Rattle.palm_arena.specs.Sites.{Site, raised, sites_below}
-use Rattle.palm_arena.specs.Standing.{Kept, kept_cells, kept_rows, removed_of, Stands}
+use Rattle.palm_arena.specs.Standing.{untouched_cells, Kept, kept_cells, kept_rows, removed_of, Stands}
 
 -- A pass: the tree before it with its ids, the edits in order, the leaves to which something is routed, and the nodes that
 -- are in no tree. So one of Set 44 90 alone, which goes to the leaf at 2, has this edit, and 2 as its one routed leaf.
@@ -87,7 +87,13 @@ pub record StandsAt (p : Pass) (level : ℕ) (nodes : NodeId → Option Node) (c
 abbrev pub outcome_of : (p : Pass) → Outcome (base_level p.tree.0)
 outcome_of p = base_pass p.tree.0 (value_in p.tree.0 p.tree.1.1) p.edits
 
--- The tree after the pass stands at a shape, beside what the removed nodes of the changes hold.
+-- The nodes of the pass's tree that no routed leaf is at or under, as cells.
+-- So of a root over the leaves 1 and 2 it is the cell of 1 where 2 is the one routed leaf.
+abbrev pub untouched_in : Pass → List Cell
+untouched_in p = untouched_cells (is_among p.routed) p.tree.0 p.tree.1
+
+-- The tree after the pass stands at a shape, beside what the removed nodes of the changes hold. Each untouched node of the tree
+-- before it is at its id still, and as it was.
 -- So after Set 44 90 over the empty leaf at 3 it may be the root 3 with 1 level, where 3 has the leaf of 44 90 and nothing is
 -- loose or removed.
 pub record IsRepaired (p : Pass) (nodes : NodeId → Option Node) (changes : Changes) (shape : Shape) : Type 0 where
@@ -100,6 +106,7 @@ pub record IsRepaired (p : Pass) (nodes : NodeId → Option Node) (changes : Cha
   pub removed : changes.removed ≡ map removed_of kept
   pub loose : IsPermutation (changes.loose ++ flat_map kept_rows kept) (outcome_of p).loose
   pub owned : Owns nodes (cells_of tree.0 tree.1 ++ (flat_map kept_cells kept ++ p.rest))
+  pub untouched : HasCells nodes (untouched_in p)
 
 -- A tree stands at a shape, beside what is in no tree.
 -- So the empty tree does at the root 3 with 1 level where the leaf of no rows stands at 3.

@@ -1,6 +1,6 @@
 -- What holds between the levels of a pass: each node of a level has become what the serial rule makes of it, and all else
 -- is as it was.
-use Rattle.std.specs.Prelude.{◌≡◌, ℕ, Bool, true, false, List, [], ◌∷◌, ◌++◌, map, filter, Option}
+use Rattle.std.specs.Prelude.{◌≡◌, ℕ, Bool, true, false, List, [], ◌∷◌, ◌++◌, map, filter, if◌then◌else◌, Option}
 use Rattle.std.specs.List.{flat_map, AllByRecursion, list_any}
 use Rattle.std.specs.List.Sorted.{IsPermutation}
 use Rattle.std.proofs.Common.{zero, suc}
@@ -11,14 +11,29 @@ use Rattle.palm_node.specs.declared.node.Node.{Node}
 use Rattle.palm_node.specs.declared.change.Change.{Change}
 use Rattle.palm_node.specs.declared.change.Changes.{Changes}
 use Rattle.palm_node.specs.declared.change.Removed.{Removed}
-use Rattle.palm_arena.specs.Cells.{Cell, Owns}
-use Rattle.palm_arena.specs.Placed.{Placed, value_in, values, cells_of, cells_under, bare}
+use Rattle.palm_arena.specs.Cells.{Cell, Owns, HasCells}
+use Rattle.palm_arena.specs.Placed.{Placed, value_in, values, node_of, cells_of, cells_under, bare}
 use Rattle.palm_arena.specs.Sites.{Site, raised, sites_at, cells_above, outcome_at}
 
 -- A touched leaf is the node, or is under it. So the root over the leaves 1 and 2 is touched where 2 is.
 abbrev pub is_touched : (NodeId → Bool) → (l : ℕ) → Placed l → Bool
 is_touched touched zero placed = touched placed.0
 is_touched touched (suc l) placed = list_any (λ child. is_touched touched l child.1) placed.1
+
+-- The node's own cell, where it isn't touched. So of the leaf a at 1 it is (1, a), and none where 1 is touched.
+abbrev pub untouched_own : (NodeId → Bool) → (l : ℕ) → Placed l → List Cell
+untouched_own touched l placed = let own = (placed.0, node_of l placed.1) ∷ [] in if is_touched touched l placed then [] else own
+
+-- The cells of the untouched nodes at a node and under it.
+-- So of the root over the leaves 1 and 2 they are that of 1 where 2 alone is touched, and all three where neither is.
+abbrev pub untouched_cells : (NodeId → Bool) → (l : ℕ) → Placed l → List Cell
+untouched_cells touched zero placed = untouched_own touched zero placed
+untouched_cells touched (suc l) placed = untouched_own touched (suc l) placed ++ flat_map (λ child. untouched_cells touched l child.1) placed.1
+
+-- Those at the sites of a level and under them. So at the sites of the leaves 1, 2 and 3 they are those of 1 and 3 where 2 alone
+-- is touched.
+abbrev pub untouched_at : (NodeId → Bool) → (l : ℕ) → List (Site l) → List Cell
+untouched_at touched l sites = flat_map (λ site. untouched_cells touched l site.place) sites
 
 -- What stands for a node after the pass: the pieces in its place, each with its low and its id.
 -- So for the leaf at 2 from 20 on, left with 17 rows, the tenth by 28, they may be (20, (2, 9 rows)), (28, (3, 8 rows)).
@@ -77,7 +92,7 @@ removed_of kept = record { level = suc kept.below; id = kept.place.0 }
 -- its pieces, an untouched one itself; the changes are those of the touched nodes, from left to right; the loose rows with
 -- the rows under the removed nodes are the loose rows of the serial rule, each once; and a map holds the nodes above the
 -- level as they were, the pieces with all that is under them, the removed nodes with all that is under them, and `rest`,
--- with no id met twice.
+-- with no id met twice. Among these are the untouched nodes of the level and under it, each at its id and as it was.
 -- So for Set 44 90 over the empty leaf at 3, which is touched, 3 has the leaf of 44 90, and the changes are one of 3 with the
 -- piece (0, 3).
 pub record Stands (d l : ℕ) (root : Site (raised l d)) (touched : NodeId → Bool) (rest : List Cell) (nodes : NodeId → Option Node) (changes : Changes) : Type 0 where
@@ -90,3 +105,4 @@ pub record Stands (d l : ℕ) (root : Site (raised l d)) (touched : NodeId → B
   pub removed : changes.removed ≡ map removed_of kept
   pub loose : IsPermutation (changes.loose ++ flat_map kept_rows kept) (flat_map (loose_of l d) results)
   pub owned : Owns nodes (cells_above d l root ++ (cells_under l (flat_map (λ result. result.pieces) results) ++ (flat_map kept_cells kept ++ rest)))
+  pub untouched : HasCells nodes (cells_above d l root ++ untouched_at touched l (sites_at d l root))

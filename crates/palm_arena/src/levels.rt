@@ -1,11 +1,11 @@
 // The levels of nodes over pieces, up to the one that is the root.
-ghost use Rattle.std.specs.Prelude.{◌≡◌, ◌+◌, ◌<◌, ◌≤◌, ◌==◌, if◌then◌else◌, List, length, IfOk, IsSome};
+ghost use Rattle.std.specs.Prelude.{◌≡◌, ◌+◌, ◌<◌, ◌≤◌, ◌==◌, if◌then◌else◌, List, length, IfOk, OnOk, IsSome};
 ghost use Rattle.palm_base.specs.Cut.{piece_count};
 ghost use Rattle.palm_node.specs.InnerNode.{Rise, later_lows};
 ghost use Rattle.palm_arena.specs.ArenaState.{NoneLent};
 ghost use Rattle.palm_arena.specs.Reads.{map_of};
 ghost use Rattle.palm_base.specs.Tree.{Tree};
-ghost use Rattle.palm_arena.specs.Cells.{Cell};
+ghost use Rattle.palm_arena.specs.Cells.{Cell, HasCells};
 ghost use Rattle.palm_arena.specs.Passes.{StandsAlone};
 ghost use Rattle.palm_base.specs.declared.bounds.TheConstants.{MOST_LEVELS};
 ghost use Rattle.palm_arena.specs.Levels.{IsTaken, IsLevel, HasRaised};
@@ -71,6 +71,7 @@ pub fn raise<L: Ledger>(
     requires none_lent { NoneLent arena.old.places }
     requires level { (tree : Tree) × (others : List Cell) × IsLevel tree others (map_of arena.old.places) below lowest }
     ensures raised { IfOk result (λ shape. (tree : Tree) (others : List Cell) → IsLevel tree others (map_of arena.old.places) below lowest → StandsAlone tree others (map_of arena.new.places) shape) }
+    ensures others { OnOk result ((cells : List Cell) → HasCells (map_of arena.old.places) cells → HasCells (map_of arena.new.places) cells) }
     ensures begun { arena.new.begun ≡ arena.old.begun }
     ensures none_lent { NoneLent arena.new.places }
     ensures ticks { HasRaised (length lowest) steps.old steps.new }

@@ -195,6 +195,28 @@ fn use_again<L: Ledger>(rt: &impl Abort, alloc: Global, blank: Blank) -> Result<
     Ok(())
 }
 
+fn offer_again<L: Ledger>(rt: &impl Abort, alloc: Global, blank: Blank) -> Result<(), NoMemory>
+    requires blank_name { blank.name ≡ L.name }
+    requires blank_parts { blank.parts ≡ L.parts }
+    requires blank { 0 < blank.parts }
+{
+    let mut steps = Steps::<L>::new(blank);
+    let (mut arena, first, second) = with_two(rt, alloc, &mut steps)?;
+    arena.begin();
+    assert!(rt; arena.is_held(second));
+    remove(&mut arena, second)?;
+    arena.commit();
+    arena.begin();
+    let third = add(&mut arena, leaf(rt, "3", 30), &mut steps)?;
+    assert!(rt; third == second, "the one that is free");
+    arena.rollback();
+    assert!(rt; !arena.is_held(second), "taken back");
+    // the free id that the batch had taken is free once more
+    take_fourth(rt, &mut arena, second, &mut steps)?;
+    assert_leaf(rt, &arena, first, "1", 10);
+    Ok(())
+}
+
 fn lend_twice<L: Ledger>(rt: &impl Abort, alloc: Global, blank: Blank) -> Result<(), NoMemory>
     requires blank_name { blank.name ≡ L.name }
     requires blank_parts { blank.parts ≡ L.parts }
@@ -229,6 +251,12 @@ fn keeps_a_batch(rt: HostRuntime) -> Result<(), Fail> {
 #[test]
 fn uses_ids_again(rt: HostRuntime) -> Result<(), Fail> {
     use_again::<Brand>(&rt, rt.alloc(), Blank::new(1))?;
+    Ok(())
+}
+
+#[test]
+fn offers_a_free_id_again_after_a_rollback(rt: HostRuntime) -> Result<(), Fail> {
+    offer_again::<Brand>(&rt, rt.alloc(), Blank::new(1))?;
     Ok(())
 }
 

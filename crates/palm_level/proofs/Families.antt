@@ -16,7 +16,7 @@ use Rattle.palm_node.specs.declared.id.NodeId.{NodeId}
 use Rattle.palm_node.specs.declared.node.Node.{Node}
 use Rattle.palm_node.specs.declared.node.Node.TheVariants.{Inner}
 use Rattle.palm_node.specs.declared.change.Changes.{Changes}
-use Rattle.palm_arena.specs.Cells.{Cell, found_at, Owns, SameCells}
+use Rattle.palm_arena.specs.Cells.{Cell, found_at, Owns, SameCells, Turns}
 use Rattle.palm_arena.specs.Placed.{Body, Placed, value_in, values, cells_of, cells_under, ids_of_children, with_ids, own_cells}
 use Rattle.palm_arena.specs.Routes.{separators_of}
 use Rattle.palm_arena.specs.Sites.{Site, raised, sites_at, cell_of_site, cells_above}
@@ -24,6 +24,7 @@ use Rattle.palm_arena.specs.Standing.{is_touched, Result, is_hit, StandsForItsel
 use Rattle.palm_arena.proofs.SitePasses.{site_pass, outcome_below}
 use Rattle.palm_arena.proofs.LevelCells.{sites_children}
 use Rattle.palm_arena.proofs.CellLists.{owned_same, same_trans, same_sym, same_eq, same_front, same_back}
+use Rattle.palm_arena.proofs.Untouched.{touched_own, untouched_next}
 use Rattle.palm_arena.proofs.ListParts.{same_parted, same_each, perm_more, flat_each, flat_flat, map_map, flat_map', all_map, all_flat}
 use Rattle.palm_level.proofs.Parent.{parent_right, parent_loose}
 use Rattle.palm_arena.proofs.NamedNodes.{nodes_cells, over_cells}
@@ -266,4 +267,8 @@ level_stands d l root W rest m m' seen st fs w =
       removed = ap (λ rs. rs ++ map removed_of (flat_map (kept_after W l) fs)) st.removed ∙ sym (map-append removed_of st.kept (flat_map (kept_after W l) fs));
       loose = loose_after d l root W rest m m' seen st fs w k;
       owned = owned_after d l root W rest m m' seen st fs w k;
+      untouched = untouched_next d l root W m m' (flat_map (nodes_after W l) fs) (subst (λ cs. Turns m m' cs (flat_map (nodes_after W l) fs)) worked w.turned) st.untouched;
     }
+  where
+    worked : flat_map (nodes_before W l) fs ≡ flat_map (touched_own W (suc l)) (sites_at d (suc l) root)
+    worked = sym (flat_map' (λ f. f.parent) (touched_own W (suc l)) fs) ∙ ap (flat_map (touched_own W (suc l))) w.parents

@@ -24,16 +24,17 @@ use Rattle.palm_node.specs.declared.node.Node.TheVariants.{Leaf, Inner}
 use Rattle.palm_node.specs.declared.change.Changes.{Changes}
 use Rattle.palm_node.proofs.TopLevels.{leaves_orderly, top_alone}
 use Rattle.palm_arena.specs.declared.shape.Shape.{Shape}
-use Rattle.palm_arena.specs.Cells.{Cell, Owns, Turns}
+use Rattle.palm_arena.specs.Cells.{Cell, Owns, Turns, HasCells}
 use Rattle.palm_arena.specs.Placed.{Placed, PlacedTree, value_in, value_of, values, bare, cells_of, cells_under}
 use Rattle.palm_arena.specs.Sites.{Site, raised, sites_below}
 use Rattle.palm_arena.specs.Standing.{Result, is_hit, StandsForItself, IsRight, loose_of, Kept, kept_cells, kept_rows, Stands}
-use Rattle.palm_arena.specs.Passes.{Pass, is_among, leaf_sites, IsTouchedOrStill, IsPass, IsRepaired, StandsAlone}
+use Rattle.palm_arena.specs.Passes.{Pass, is_among, leaf_sites, IsTouchedOrStill, IsPass, IsRepaired, StandsAlone, untouched_in}
 use Rattle.palm_arena.proofs.OwnedTrees.{values_length, first_value}
 use Rattle.palm_arena.specs.Levels.{IsLevel}
 use Rattle.palm_arena.proofs.Raised.{bare_length}
 use Rattle.palm_arena.proofs.SitePasses.{site_pass, outcome_below}
 use Rattle.palm_arena.proofs.CellLists.{owned_front}
+use Rattle.palm_arena.proofs.Untouched.{has_turned}
 use Rattle.palm_level.specs.Families.{pieces_under}
 use Rattle.palm_level.proofs.Families.{passed_all}
 use Rattle.palm_level.proofs.Parent.{outcome_of_results, below_results, joined_values}
@@ -221,8 +222,8 @@ unfolding top top_in
 top_none n = refl
 
 -- What is left, one piece alone, is the whole tree.
-pub left_alone : (p : Pass) (nodes : NodeId → Option Node) (changes : Changes) (shape : Shape) (piece : Piece) → HasLeft p [] nodes changes 0 (piece ∷ []) → shape.root ≡ piece.id → shape.levels ≡ 1 → IsRepaired p nodes changes shape
-left_alone p nodes changes shape piece left root levels = by left.n left.below-is left.children left.pieces left.same left.owned
+pub left_alone : (p : Pass) (nodes : NodeId → Option Node) (changes : Changes) (shape : Shape) (piece : Piece) → HasLeft p [] nodes changes 0 (piece ∷ []) → shape.root ≡ piece.id → shape.levels ≡ 1 → HasCells nodes (untouched_in p) → IsRepaired p nodes changes shape
+left_alone p nodes changes shape piece left root levels untouched = by left.n left.below-is left.children left.pieces left.same left.owned
   where
     by : (n : ℕ) → 0 ≡ n → (children : List (ℕ × Placed n)) → bare children ≡ piece ∷ [] → top n (values n children) ≡ passed_tree (value_of p.tree) p.edits → Owns nodes (cells_under n children ++ (flat_map kept_cells left.kept ++ p.rest)) → IsRepaired p nodes changes shape
     by n zero-is [] pieces same owned = absurd cc
@@ -239,12 +240,14 @@ left_alone p nodes changes shape piece left root levels = by left.n left.below-i
           removed = left.removed;
           loose = left.loose;
           owned = subst (λ cs. Owns nodes (cs ++ (flat_map kept_cells left.kept ++ p.rest))) (append-nil (cells_of n c.1)) owned;
+          untouched = untouched;
         }
 
 -- What is left, the children that an inner root had, is the whole tree with the root.
 pub left_under : (p : Pass) (nodes : NodeId → Option Node) (changes : Changes) (shape : Shape) (n : ℕ) (old : List (ℕ × Placed n)) → HasLeft p ((p.tree.1.0, Inner (inner_of old)) ∷ []) nodes changes n (bare old)
-    → 2 ≤ length old → length old ≤ MOST_CHILDREN → next_low (λ child. child.0) 0 old ≡ 0 → shape.root ≡ p.tree.1.0 → shape.levels ≡ suc (suc n) → IsRepaired p nodes changes shape
-left_under p nodes changes shape n old left two few first root levels = by left.n left.below-is left.children left.pieces left.same left.owned
+    → 2 ≤ length old → length old ≤ MOST_CHILDREN → next_low (λ child. child.0) 0 old ≡ 0 → shape.root ≡ p.tree.1.0 → shape.levels ≡ suc (suc n) → HasCells nodes (untouched_in p)
+    → IsRepaired p nodes changes shape
+left_under p nodes changes shape n old left two few first root levels untouched = by left.n left.below-is left.children left.pieces left.same left.owned
   where
     by : (k : ℕ) → n ≡ k → (children : List (ℕ × Placed k)) → bare children ≡ bare old → top k (values k children) ≡ passed_tree (value_of p.tree) p.edits
         → Owns nodes ((p.tree.1.0, Inner (inner_of old)) ∷ (cells_under k children ++ (flat_map kept_cells left.kept ++ p.rest))) → IsRepaired p nodes changes shape
@@ -262,6 +265,7 @@ left_under p nodes changes shape n old left two few first root levels = by left.
           removed = left.removed;
           loose = left.loose;
           owned = subst (λ node. Owns nodes ((p.tree.1.0, node) ∷ (cells_under k children ++ (flat_map kept_cells left.kept ++ p.rest)))) (ap (λ i. Inner i) (sym (inner_bare old) ∙ ap inner_over (sym pieces) ∙ inner_bare children)) owned;
+          untouched = untouched;
         }
 
 -- ---- the root anew
@@ -288,8 +292,9 @@ left_without p own nodes later changes below level left turns =
 
 -- A tree that stands where the pieces were left is the pass's.
 pub left_stands : (p : Pass) (nodes later : NodeId → Option Node) (changes : Changes) (below : ℕ) (level : List Piece) (shape : Shape) → (left : HasLeft p [] nodes changes below level)
-    → StandsAlone (passed_tree (value_of p.tree) p.edits) (flat_map kept_cells left.kept ++ p.rest) later shape → IsRepaired p later changes shape
-left_stands p nodes later changes below level shape left stands = record {
+    → StandsAlone (passed_tree (value_of p.tree) p.edits) (flat_map kept_cells left.kept ++ p.rest) later shape → HasCells later (untouched_in p)
+    → IsRepaired p later changes shape
+left_stands p nodes later changes below level shape left stands untouched = record {
   is-pass = left.is-pass;
   tree = stands.tree;
   kept = left.kept;
@@ -299,6 +304,7 @@ left_stands p nodes later changes below level shape left stands = record {
   removed = left.removed;
   loose = left.loose;
   owned = stands.owned;
+  untouched = untouched;
 }
 
 -- Where nothing is left, an empty leaf is the tree.
@@ -316,8 +322,8 @@ no_pieces [] e = refl
 no_pieces (piece ∷ level) e = absurd (omega (arith, eqb-true (length (piece ∷ level)) 0 e))
 
 pub left_nothing_stands : (p : Pass) (nodes later : NodeId → Option Node) (changes : Changes) (below : ℕ) (level : List Piece) (shape : Shape) → HasLeft p [] nodes changes below level → level ≡ [] → shape.levels ≡ 1 → Turns nodes later [] ((shape.root, Leaf []) ∷ [])
-    → IsRepaired p later changes shape
-left_nothing_stands p nodes later changes below level shape left none levels turns =
+    → HasCells nodes (untouched_in p) → IsRepaired p later changes shape
+left_nothing_stands p nodes later changes below level shape left none levels turns has =
     let empty : HasLeft p [] nodes changes below [] = subst (HasLeft p [] nodes changes below) none left in
     let stands = left_nothing p nodes later changes below shape.root empty turns in
-    left_stands p nodes later changes below [] shape empty (subst (StandsAlone (passed_tree (value_of p.tree) p.edits) (flat_map kept_cells empty.kept ++ p.rest) later) (ap (λ (n : ℕ). let s : Shape = record { root = shape.root; levels = n } in s) (sym levels)) stands)
+    left_stands p nodes later changes below [] shape empty (subst (StandsAlone (passed_tree (value_of p.tree) p.edits) (flat_map kept_cells empty.kept ++ p.rest) later) (ap (λ (n : ℕ). let s : Shape = record { root = shape.root; levels = n } in s) (sym levels)) stands) (has_turned nodes later [] ((shape.root, Leaf []) ∷ []) (untouched_in p) turns has)

@@ -1,7 +1,7 @@
 -- A root whose children each stand for themselves stays as it is.
-use Rattle.std.proofs.Common.{◌≡◌, ℕ, zero, suc, ◌+◌, ◌-◌, ◌*◌, ◌<◌, ◌≤◌, Bool, true, false, cond, List, [], ◌∷◌, ◌++◌, length, map, get_or, Option, Some, None, refl, sym, ap, subst, arith, ◌∙◌, inl, inr, eq-eqb, eqb-true}
+use Rattle.std.proofs.Common.{◌≡◌, ℕ, zero, suc, ◌+◌, ◌-◌, ◌*◌, ◌<◌, ◌≤◌, Bool, true, false, cond, ◌||◌, List, [], ◌∷◌, ◌++◌, length, map, get_or, Option, Some, None, refl, sym, ap, subst, arith, ◌∙◌, inl, inr, eq-eqb, eqb-true}
 use Rattle.std.specs.Prelude.{MatchOption}
-use Rattle.std.specs.List.{filter, AllByRecursion}
+use Rattle.std.specs.List.{filter, flat_map, list_any, AllByRecursion}
 use Rattle.std.proofs.lemmas.List.{append-nil}
 use Rattle.std.proofs.lemmas.Bool.{lt-ltb, le-ltb}
 use Rattle.std.proofs.lemmas.Bool.{and_parts}
@@ -18,8 +18,8 @@ use Rattle.palm_node.specs.declared.change.Changes.{Changes}
 use Rattle.palm_arena.specs.declared.shape.Shape.{Shape}
 use Rattle.palm_arena.specs.Placed.{Placed, PlacedTree, value_in, value_of, values, bare}
 use Rattle.palm_arena.specs.Sites.{Site, sites_below}
-use Rattle.palm_arena.specs.Standing.{Result, is_hit, StandsForItself, change_of}
-use Rattle.palm_arena.specs.Passes.{Pass, is_among, IsRepaired}
+use Rattle.palm_arena.specs.Standing.{is_touched, untouched_cells, untouched_at, Result, is_hit, StandsForItself, change_of}
+use Rattle.palm_arena.specs.Passes.{Pass, is_among, IsRepaired, untouched_in}
 use Rattle.palm_arena.proofs.Natural.{length-map'}
 use Rattle.palm_arena.proofs.Keeping.{same_id}
 use Rattle.palm_arena.proofs.OwnedTrees.{values_length, first_value}
@@ -37,7 +37,9 @@ use Rattle.palm_base.proofs.LevelCounts.{lawful_trees_are_low}
 use Rattle.palm_base.proofs.Lows.{prefixes_in}
 use Rattle.palm_arena.specs.ArenaState.{ArenaState, node_at, with_place}
 use Rattle.palm_arena.specs.Reads.{map_of}
-use Rattle.palm_arena.specs.Cells.{Turns}
+use Rattle.palm_arena.specs.Cells.{Cell, Turns, HasCells}
+use Rattle.palm_arena.proofs.LevelCells.{sites_children}
+use Rattle.palm_arena.proofs.Untouched.{has_last, under_sites}
 use Rattle.palm_arena.specs.declared.place.Place.TheVariants.{Empty}
 use Rattle.palm_level.proofs.Within.{under_more}
 use Rattle.palm_level.proofs.Bounds.{more_in}
@@ -82,14 +84,19 @@ leaf_found p nodes shape changes left s one is = by found.0 (is_hit touched zero
     itself : is_hit touched zero found.0 ≡ false → found.0.pieces ≡ (found.0.site.low, found.0.site.place) ∷ []
     itself = (subst (AllByRecursion (StandsForItself touched zero)) found.1 leaf.stands.still).0
 
+    untouched : HasCells nodes (untouched_in p)
+    untouched =
+        subst (λ (t : PlacedTree). HasCells nodes (untouched_cells touched t.0 t.1)) leaf.tree-is
+        (subst (HasCells nodes) (append-nil (untouched_cells touched zero leaf.root.place)) leaf.stands.untouched)
+
     alone : (pieces : List Piece) → bare found.0.pieces ≡ pieces → is_alone found.0.site.place.0 pieces ≡ true → IsRepaired p nodes changes shape
     alone [] e a = absurd cc
     alone (p ∷ q ∷ ps) e a = absurd cc
     alone (piece ∷ []) e a =
-        left_alone p nodes changes shape piece (subst (HasLeft p [] nodes changes 0) e found.3) (root ∙ sym (same_id piece.id found.0.site.place.0 (eqb-true piece.id.place found.0.site.place.0.place a))) levels
+        left_alone p nodes changes shape piece (subst (HasLeft p [] nodes changes 0) e found.3) (root ∙ sym (same_id piece.id found.0.site.place.0 (eqb-true piece.id.place found.0.site.place.0.place a))) levels untouched
 
-    whole : (pieces : List Piece) → HasLeft p [] nodes changes 0 pieces → HasLeft p (root_cells nodes shape) nodes changes (shape.levels - 2) pieces
-    whole pieces has = rw levels has
+    whole : (pieces : List Piece) → HasLeft p [] nodes changes 0 pieces → IsFound p nodes changes shape (Some pieces)
+    whole pieces has = rw levels (has, untouched)
 
     by : (r : Result zero) (b : Bool) → is_hit touched zero found.0 ≡ b → (left : Option (List Piece)) → MatchOption left (is_still changes.nodes ≡ true) (IsHeadOf changes.nodes) → IsFound p nodes changes shape left
     by r true hit None still =
@@ -155,6 +162,37 @@ root_places p nodes shape changes inner s more read =
     (subst (λ (i : InnerNode). PlacesRise 0 (length i.children) (changes_in (is_among p.routed) at.n at.stands.results)) same
     (subst (λ n. PlacesRise 0 n (changes_in (is_among p.routed) at.n at.stands.results)) (sym count) (family_places (is_among p.routed) at.n (root_family p nodes changes at) (is_family p nodes changes at))))
 
+-- What is untouched is held, whether the node itself is or not.
+where_touched : (nodes : NodeId → Option Node) (own : Cell) (under : List Cell) (hit : Bool) → HasCells nodes (own ∷ under) → HasCells nodes (cond hit [] (own ∷ []) ++ under)
+where_touched nodes own under true has = has_last nodes (own ∷ []) under has
+where_touched nodes own under false has = has
+
+-- Where no child is touched, no result is.
+no_hits : (W : NodeId → Bool) (l : ℕ) (rs : List (Result l)) → list_any (λ (child : ℕ × Placed l). is_touched W l child.1) (map {B = ℕ × Placed l} (λ s. (s.low, s.place)) (map (λ r. r.site) rs)) ≡ false → filter (is_hit W l) rs ≡ []
+no_hits W l [] none = refl
+no_hits W l (r ∷ rs) none = by (is_hit W l r) (no_hits W l rs) none
+  where
+    later : Bool
+    later = list_any (λ (child : ℕ × Placed l). is_touched W l child.1) (map {B = ℕ × Placed l} (λ s. (s.low, s.place)) (map (λ r. r.site) rs))
+
+    by : (b : Bool) → (later ≡ false → filter (is_hit W l) rs ≡ []) → (b || later) ≡ false → cond b (r ∷ filter (is_hit W l) rs) (filter (is_hit W l) rs) ≡ []
+    by true rest e = absurd cc
+    by false rest e = rest e
+
+-- A root below which something moved is touched.
+root_hit : (W : NodeId → Bool) (l : ℕ) (root : Site (suc l)) (rs : List (Result l)) → map (λ r. r.site) rs ≡ sites_below l root → is_still (map (change_of l) (filter (is_hit W l) rs)) ≡ false → is_touched W (suc l) root.place ≡ true
+root_hit W l root rs sites moved = by (is_touched W (suc l) root.place) refl
+  where
+    all : map {B = ℕ × Placed l} (λ s. (s.low, s.place)) (map (λ r. r.site) rs) ≡ root.place.1
+    all = ap (map {B = ℕ × Placed l} (λ s. (s.low, s.place))) sites ∙ sites_children l root.path root.place.0 0 root.place.1 root.edits
+
+    by : (b : Bool) → is_touched W (suc l) root.place ≡ b → b ≡ true
+    by true e = refl
+    by false e =
+        let none = no_hits W l rs (ap (list_any (λ (child : ℕ × Placed l). is_touched W l child.1)) all ∙ e) in
+        let no : true ≡ false = sym (ap (λ hits. is_still (map (change_of l) hits)) none) ∙ moved in
+        absurd cc
+
 pub inner_found : (p : Pass) (nodes : NodeId → Option Node) (shape : Shape) (changes : Changes) (inner : InnerNode) (left : Option (List Piece)) → StandsBelow p nodes shape changes → 1 < shape.levels → nodes shape.root ≡ Some (Inner inner)
     → MatchOption left (is_still changes.nodes ≡ true) (λ pieces. (is_still changes.nodes ≡ false) × (pieces ≡ children_left inner changes.nodes)) → IsFound p nodes changes shape left
 unfolding root_family
@@ -181,6 +219,17 @@ inner_found p nodes shape changes inner left s more read is = by left is
     levels : shape.levels ≡ suc (suc at.n)
     levels = s.levels ∙ ap (λ (t : PlacedTree). suc t.0) (sym at.tree-is)
 
+    own : Cell
+    own = (at.root.place.0, Inner (inner_of at.root.place.1))
+
+    under : List Cell
+    under = flat_map (λ child. untouched_cells touched at.n child.1) at.root.place.1
+
+    beside : HasCells nodes (own ∷ under)
+    beside =
+        subst (λ cs. HasCells nodes (own ∷ cs))
+        (ap (untouched_at touched at.n) (append-nil (sites_below at.n at.root)) ∙ under_sites at.n (untouched_cells touched at.n) at.root) at.stands.untouched
+
     by : (left : Option (List Piece)) → MatchOption left (is_still changes.nodes ≡ true) (λ pieces. (is_still changes.nodes ≡ false) × (pieces ≡ children_left inner changes.nodes)) → IsFound p nodes changes shape left
     by None still =
         let passed = passed_all touched at.n 0 at.stands.results at.stands.right in
@@ -190,6 +239,7 @@ inner_found p nodes shape changes inner left s more read is = by left is
         let count = values_length at.n at.root.place.1 in
         left_under p nodes changes shape at.n at.root.place.1 (subst (HasLeft p ((p.tree.1.0, Inner (inner_of at.root.place.1)) ∷ []) nodes changes at.n) own_pieces has)
         (omega (arith, lawful.1.0.0, count)) (omega (arith, lawful.1.0.1, count)) first s.root levels
+        (subst (λ (t : PlacedTree). HasCells nodes (untouched_cells touched t.0 t.1)) at.tree-is (where_touched nodes own under (is_touched touched (suc at.n) at.root.place) beside))
     by (Some pieces) is =
         let found : pieces ≡ bare (pieces_under at.n at.stands.results) =
         is.1 ∙ ap (λ (i : InnerNode). children_left i changes.nodes) same ∙ ap (λ cs. children_left (inner_of at.root.place.1) cs) at.stands.changed
@@ -197,9 +247,13 @@ inner_found p nodes shape changes inner left s more read is = by left is
         let below : at.n ≡ shape.levels - 2 = omega (arith, levels) in
         let cells : (p.tree.1.0, Inner (inner_of at.root.place.1)) ∷ [] ≡ root_cells nodes shape =
         ap (λ id. (id, Inner (inner_of at.root.place.1)) ∷ []) (sym s.root) ∙ sym (rw (root_held p nodes shape changes s more, lt-ltb 1 shape.levels more) refl) in
-        subst (λ own. HasLeft p own nodes changes (shape.levels - 2) pieces) cells
-        (subst (λ n. HasLeft p ((p.tree.1.0, Inner (inner_of at.root.place.1)) ∷ []) nodes changes n pieces) below
-        (subst (HasLeft p ((p.tree.1.0, Inner (inner_of at.root.place.1)) ∷ []) nodes changes at.n) (sym found) has))
+        let hit : is_touched touched (suc at.n) at.root.place ≡ true = root_hit touched at.n at.root at.stands.results (is_family p nodes changes at) (sym (ap is_still at.stands.changed) ∙ is.0) in
+        subst (λ own. HasLeft p own nodes changes (shape.levels - 2) pieces × HasCells nodes (own ++ untouched_in p)) cells (
+          subst (λ n. HasLeft p ((p.tree.1.0, Inner (inner_of at.root.place.1)) ∷ []) nodes changes n pieces) below
+              (subst (HasLeft p ((p.tree.1.0, Inner (inner_of at.root.place.1)) ∷ []) nodes changes at.n) (sym found) has),
+          subst (λ (t : PlacedTree). HasCells nodes ((t.1.0, Inner (inner_of at.root.place.1)) ∷ untouched_cells touched t.0 t.1)) at.tree-is
+              (subst (λ b. HasCells nodes (own ∷ (cond b [] (own ∷ []) ++ under))) (sym hit) beside),
+        )
 
 -- ---- how many pieces are left
 

@@ -12,10 +12,10 @@ use Rattle.palm_node.specs.declared.node.Node.{Node}
 use Rattle.palm_node.specs.declared.change.Change.{Change}
 use Rattle.palm_node.specs.declared.change.Changes.{Changes}
 use Rattle.palm_arena.specs.declared.shape.Shape.{Shape}
-use Rattle.palm_arena.specs.Cells.{Cell, Owns}
+use Rattle.palm_arena.specs.Cells.{Cell, Owns, HasCells}
 use Rattle.palm_arena.specs.Placed.{Placed, value_of, values, bare, cells_under}
 use Rattle.palm_arena.specs.Standing.{Kept, kept_cells, kept_rows, removed_of}
-use Rattle.palm_arena.specs.Passes.{Pass, IsPass, StandsAt, IsRepaired, outcome_of}
+use Rattle.palm_arena.specs.Passes.{Pass, IsPass, StandsAt, IsRepaired, outcome_of, untouched_in}
 use Rattle.palm_arena.specs.Levels.{HasRaised}
 
 -- The level below the root of a tree of so many levels, counted from the leaves at 1, and that of the root where it is a leaf.
@@ -57,10 +57,11 @@ pub record HasLeft (p : Pass) (own : List Cell) (nodes : NodeId → Option Node)
   pub loose : IsPermutation (changes.loose ++ flat_map kept_rows kept) (outcome_of p).loose
   pub owned : Owns nodes (own ++ (cells_under n children ++ (flat_map kept_cells kept ++ p.rest)))
 
--- What was found below the root: the pieces that are left there, or that the root stays as it is. So by none the tree after the
--- pass stands there already, and by (0, 5), (7, 6) these two are left.
+-- What was found below the root: the pieces that are left there, where the map has the untouched nodes beside the root's own
+-- cell, or that the root stays as it is. So by none the tree after the pass stands there already, and by (0, 5), (7, 6) these two
+-- are left.
 abbrev pub IsFound : Pass → (NodeId → Option Node) → Changes → Shape → Option (List Piece) → Type 0
-IsFound p nodes changes shape found = MatchOption found (IsRepaired p nodes changes shape) (λ level. HasLeft p (root_cells nodes shape) nodes changes (shape.levels - 2) level)
+IsFound p nodes changes shape found = MatchOption found (IsRepaired p nodes changes shape) (λ level. HasLeft p (root_cells nodes shape) nodes changes (shape.levels - 2) level × HasCells nodes (root_cells nodes shape ++ untouched_in p))
 
 -- The pieces are those of the first change. So where the first change has (0, 5), (7, 6), they are these.
 abbrev pub IsHeadOf : List Change → List Piece → Type 0

@@ -6,12 +6,12 @@ ghost use Rattle.std.specs.Prelude.{◌≡◌, ◌+◌, ◌-◌, ◌*◌, ◌≤
 ghost use Rattle.palm_node.specs.declared.change.Change.{Change};
 ghost use Rattle.palm_arena.specs.ArenaState.{NoneLent, IsHeld};
 ghost use Rattle.palm_arena.specs.Reads.{map_of};
-ghost use Rattle.palm_arena.specs.Passes.{Pass, IsRepaired, IsWithin};
+ghost use Rattle.palm_arena.specs.Passes.{Pass, IsRepaired, IsWithin, untouched_in};
 ghost use Rattle.palm_level.specs.Groups.{is_still};
 ghost use Rattle.palm_base.specs.declared.bounds.TheConstants.{MOST_LEVELS};
 ghost use Rattle.palm_node.specs.declared.change.Changes.{Changes};
 ghost use Rattle.palm_node.specs.declared.node.Node.TheVariants as node;
-ghost use Rattle.palm_arena.specs.Cells.{Turns};
+ghost use Rattle.palm_arena.specs.Cells.{Turns, HasCells};
 ghost use Rattle.std.specs.Prelude.{[]};
 ghost use Rattle.palm_root.specs.Roots.{StandsBelow, HasLeft, IsFound, IsFew, IsHeadOf, HasPut, root_cells};
 
@@ -103,7 +103,7 @@ fn put_root<L: Ledger>(
     requires none_lent { NoneLent arena.old.places }
     requires most { below ≤ MOST_LEVELS }
     requires left { (p : Pass) × (changes : Changes) × HasLeft p [] (map_of arena.old.places) changes below level }
-    ensures repaired { IfOk result (λ shape. (p : Pass) (changes : Changes) → HasLeft p [] (map_of arena.old.places) changes below level → IsRepaired p (map_of arena.new.places) changes shape) }
+    ensures repaired { IfOk result (λ shape. (p : Pass) (changes : Changes) → HasLeft p [] (map_of arena.old.places) changes below level → HasCells (map_of arena.old.places) (untouched_in p) → IsRepaired p (map_of arena.new.places) changes shape) }
     ensures begun { arena.new.begun ≡ arena.old.begun }
     ensures none_lent { NoneLent arena.new.places }
     ensures ticks { HasPut (length level) steps.old steps.new }

@@ -1,13 +1,15 @@
-use Rattle.std.proofs.Common.{◌≡◌, ◌+◌, ◌-◌, ◌≤◌, ap, is_some, sym, subst, arith, refl, ◌∙◌, length}
+use Rattle.std.proofs.Common.{[], ◌≡◌, ◌+◌, ◌-◌, ◌≤◌, ap, is_some, sym, subst, arith, refl, ◌∙◌, length}
 use Rattle.palm_arena.specs.Reads.{map_of}
 use Rattle.palm_arena.specs.declared.shape.Shape.{Shape}
-use Rattle.palm_arena.specs.Levels.{IsTaken, IsLevel}
+use Rattle.palm_arena.specs.Levels.{nodes_of, cells_at, IsTaken, IsLevel}
+use Rattle.palm_arena.proofs.Untouched.{has_turned}
 use Rattle.palm_arena.proofs.Raised.{level_next, level_rises, level_last, made_count, ticks_first, ticks_next, ticks_last, ticks_refused, few_first, few_next, levels_fit, made_some, made_fewer}
 use Rattle.palm_arena.proofs.levels.raise.Goals as goal
 
 pub loop-alloc-init : goal.loop-alloc-init
 loop-alloc-init g c = record {
   level = λ tree others is. subst (λ n. IsLevel tree others (map_of c.args.arena.now.places) n c.args.lowest) (omega arith) is;
+  others = λ cells has. has;
   some = c.requires.some;
   counted = omega arith;
   few = λ fit. few_first (length c.args.lowest) c.args.below fit c.requires.most;
@@ -55,6 +57,7 @@ loop-alloc-preserved g c =
     record {
       level = λ tree others is.
           subst (λ n. IsLevel tree others new n made) (omega (arith, c.loop-alloc.invariant.counted)) (level_next tree others old new (c.loop-alloc.levels - 1) level made two taken (c.loop-alloc.invariant.level tree others is));
+      others = λ cells has. has_turned old new [] (cells_at taken.ids (nodes_of level)) cells taken.turns (c.loop-alloc.invariant.others cells has);
       some = made_some (length level) (length made) two count;
       counted = omega arith;
       few = λ less. few_next (length level) (length made) c.loop-alloc.levels two count (c.loop-alloc.invariant.few (omega (arith, c.len.ensures, c.len.type_inv)));
