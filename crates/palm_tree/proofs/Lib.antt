@@ -4,11 +4,17 @@ pub mod ChildParts
 pub mod Children
 pub mod Descents
 pub mod EmptyTree
+pub mod FrontJumps
 pub mod FrontRates
+pub mod LaneSteps
+pub mod LanesUnderWay
+pub mod LeafFloors
 pub mod LeafParts
+pub mod LeafSpans
 pub mod LevelTexts
 pub mod Limits
 pub mod Lists
 pub mod Ranges
+pub mod SharedFronts
 pub mod Standing
 pub mod Values

@@ -3,7 +3,9 @@
 
 mod build;
 mod dump;
+mod floor;
 mod list;
+mod look_ups;
 mod rows;
 #[cfg(test)]
 mod tests;

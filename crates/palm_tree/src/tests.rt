@@ -3,7 +3,7 @@ ghost use Rattle.palm_base.specs.Table.{IsTable};
 
 use super::*;
 use palm_base::text::{append, append_number};
-use palm_base::{Amount, Digits, Limit, NoMemory, Row, RowList};
+use palm_base::{Amount, Call, Digits, Entry, Limit, NoMemory, Reply, Row, RowList};
 use std::alloc::Global;
 use std::process::Abort;
 use std::test::Fail;
@@ -47,6 +47,16 @@ fn assert_rise(rt: &impl Abort, rows: &[Row])
 // The tree that is built from the rows of these numbers.
 fn built(rt: &impl Abort, alloc: Global, from: u64, to: u64) -> Result<Tree, NoMemory> {
     let rows = rows(rt, alloc, from, to)?;
+    assert_rise(rt, rows.as_slice());
+    Tree::build(alloc, &rows)
+}
+
+// A tree of three levels, with some rows that stand beside each other and begin the same numbers.
+fn nested(rt: &impl Abort, alloc: Global) -> Result<Tree, NoMemory> {
+    let mut rows = rows(rt, alloc, 100, 499)?;
+    for number in [5, 5499, 5549, 55549] {
+        rows.push(row(rt, alloc, number)?)?;
+    }
     assert_rise(rt, rows.as_slice());
     Tree::build(alloc, &rows)
 }
@@ -97,6 +107,99 @@ fn assert_listed(
     let expected = rows(rt, alloc, from, to)?;
     assert!(rt; listed.as_slice() == expected.as_slice(), "{from} to {to}");
     Ok(())
+}
+
+// A Get, a Rate and a List of each prefix, and edits of it between them.
+fn calls_of(rt: &impl Abort, alloc: Global, texts: &[&[u8]]) -> Result<Vec<Entry>, NoMemory> {
+    let mut entries = Vec::new(alloc);
+    let (Some(rate), Some(limit)) = (Amount::new(7), Limit::new(3)) else {
+        panic!(rt; "no rate or limit")
+    };
+    let to = digits(rt, b"999999999999999");
+    for text in texts {
+        let prefix = digits(rt, text);
+        let number = digits(rt, text);
+        let from = digits(rt, text);
+        for call in [
+            Call::Get { prefix },
+            Call::Set { prefix, rate },
+            Call::Rate { number },
+            Call::Del { prefix },
+            Call::List { from, to, limit },
+        ] {
+            entries.push(Entry {
+                caller: 0,
+                place: 0,
+                call,
+            })?;
+        }
+    }
+    Ok(entries)
+}
+
+// The answer to an entry is the one that the tree gives it alone, and none to an edit.
+fn assert_answer(
+    rt: &impl Abort,
+    tree: &Tree,
+    entry: &Entry,
+    answer: &Option<Reply>,
+) -> Result<(), NoMemory> {
+    match (&entry.call, answer) {
+        (Call::Get { prefix }, Some(Reply::Value(rate))) => {
+            assert!(rt; tree.get(prefix) == Some(*rate), "{prefix:?}");
+        }
+        (Call::Get { prefix }, Some(Reply::Absent)) => {
+            assert!(rt; tree.get(prefix).is_none(), "{prefix:?}");
+        }
+        (Call::Rate { number }, Some(Reply::Hit(row))) => {
+            assert!(rt; tree.longest(number) == Some(*row), "{number:?}");
+        }
+        (Call::Rate { number }, Some(Reply::Absent)) => {
+            assert!(rt; tree.longest(number).is_none(), "{number:?}");
+        }
+        (Call::List { from, to, limit }, Some(Reply::Rows(rows))) => {
+            let listed = tree.list(from, to, *limit)?;
+            assert!(rt; listed.as_slice() == rows.as_slice(), "{from:?}");
+        }
+        (Call::Set { .. } | Call::Del { .. }, None) => {}
+        _ => panic!(rt; "no such answer"),
+    }
+    Ok(())
+}
+
+// All answers are those that the tree gives one by one.
+fn assert_answers(
+    rt: &impl Abort,
+    alloc: Global,
+    tree: &Tree,
+    texts: &[&[u8]],
+) -> Result<(), NoMemory> {
+    let entries = calls_of(rt, alloc, texts)?;
+    let answers = tree.answer_look_ups(&entries)?;
+    assert_eq!(rt; answers.len(), entries.len());
+    for (entry, answer) in entries.iter().zip(answers.iter()) {
+        assert_answer(rt, tree, entry, answer)?;
+    }
+    Ok(())
+}
+
+// So they are for more calls than go down together, for few, and for none.
+fn assert_looked_up(rt: &impl Abort, alloc: Global, tree: &Tree) -> Result<(), NoMemory> {
+    let texts = [
+        b"55555".as_slice(),
+        b"5",
+        b"0",
+        b"21",
+        b"100",
+        b"2500",
+        b"33",
+        b"554",
+        b"4999",
+        b"999999999999999",
+    ];
+    assert_answers(rt, alloc, tree, &texts)?;
+    assert_answers(rt, alloc, tree, &texts[..1])?;
+    assert_answers(rt, alloc, tree, &[])
 }
 
 #[test]
@@ -175,6 +278,43 @@ fn looks_prefixes_and_numbers_up(rt: HostRuntime) -> Result<(), Fail> {
     let longest = tree.longest(&digits(&rt, b"219999"));
     assert!(rt; longest == Some(row(&rt, rt.alloc(), 21)?));
     assert!(rt; tree.longest(&digits(&rt, b"5")).is_none());
+    Ok(())
+}
+
+#[test]
+fn rates_numbers_by_jumps(rt: HostRuntime) -> Result<(), Fail> {
+    let alloc = rt.alloc();
+    let tree = nested(&rt, alloc)?;
+    let cases: [(&[u8], u64); 7] = [
+        (b"55555", 5),
+        (b"5555", 5),
+        (b"554999", 5549),
+        (b"5549", 5549),
+        (b"55549999", 55549),
+        (b"499999", 499),
+        (b"1000", 100),
+    ];
+    for (text, number) in cases {
+        let expected = row(&rt, alloc, number)?;
+        let found = tree.longest(&digits(&rt, text));
+        assert!(rt; found == Some(expected), "{number}");
+    }
+    for text in [b"0".as_slice(), b"099", b"10", b"6", b"999999999999999"] {
+        assert!(rt; tree.longest(&digits(&rt, text)).is_none());
+    }
+    Ok(())
+}
+
+#[test]
+fn answers_look_ups_abreast_as_one_by_one(rt: HostRuntime) -> Result<(), Fail> {
+    let alloc = rt.alloc();
+    assert_looked_up(&rt, alloc, &Tree::new(alloc)?)?;
+    for (from, to) in [(10, 25), (10, 43)] {
+        let tree = built(&rt, alloc, from, to)?;
+        assert_looked_up(&rt, alloc, &tree)?;
+    }
+    let tree = nested(&rt, alloc)?;
+    assert_looked_up(&rt, alloc, &tree)?;
     Ok(())
 }
 

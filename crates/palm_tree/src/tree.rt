@@ -6,6 +6,7 @@ ghost use Rattle.palm_base.specs.Table.{rate_at, best_for};
 ghost use Rattle.palm_base.specs.Tree.{rows_of, levels_of};
 ghost use Rattle.palm_tree.specs.TreeValue.{leaf_alone, tree_in};
 
+use crate::floor::{Jump, jump_from};
 use palm_arena::{Arena, Shape};
 use palm_base::{Amount, Digits, NoMemory, Row, Steps};
 use palm_node::{Leaf, Node, NodeId};
@@ -87,8 +88,8 @@ impl Tree {
     }
 
     /// The row by which a number is rated, that of the longest prefix that begins it. `None` exactly where no row's prefix
-    /// begins the number. It looks the fronts of the number up, from the longest down, and stops at the first that it
-    /// finds.
+    /// begins the number. It looks up what stands last at or before the number. Where that doesn't begin it, no front of the
+    /// number longer than what they share is a row, and the search goes on from that front.
     pub fn longest(&self, number: &Digits) -> Option<Row>
         ensures { result ≡ best_for number.now (rows_of (tree_in self.now)) }
     {
@@ -96,14 +97,12 @@ impl Tree {
             return None;
         }
         let mut len = number.len();
-        while len > 0 {
-            let prefix = number.front(len);
-            if let Some(rate) = self.get(&prefix) {
-                return Some(Row { prefix, rate });
+        loop {
+            match jump_from(self.floor(&number.front(len)), number) {
+                Jump::Done(row) => return row,
+                Jump::To(shorter) => len = shorter,
             }
-            len -= 1;
         }
-        None
     }
 
     /// How many rows the table has.
