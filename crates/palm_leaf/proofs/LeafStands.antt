@@ -13,11 +13,12 @@ use Rattle.palm_node.specs.declared.id.Piece.{Piece}
 use Rattle.palm_node.specs.declared.node.Node.{Node}
 use Rattle.palm_node.specs.declared.node.Node.TheVariants.{Leaf}
 use Rattle.palm_node.specs.declared.change.Change.{Change}
-use Rattle.palm_arena.specs.Cells.{Cell, found_at, Owns, SameCells}
+use Rattle.palm_arena.specs.Cells.{Cell, found_at, Owns, HasCells, SameCells}
 use Rattle.palm_arena.specs.Placed.{Body, Placed, values, cells_of, cells_under, bare, with_ids}
 use Rattle.palm_arena.specs.Sites.{Site, raised, sites_at, cells_above, outcome_at}
-use Rattle.palm_arena.specs.Standing.{Result, is_hit, StandsForItself, IsRight, loose_of, change_of, Stands}
-use Rattle.palm_arena.proofs.CellLists.{owned_same, same_append, same_trans, same_sym, same_eq, same_pass}
+use Rattle.palm_arena.specs.Standing.{Result, is_hit, StandsForItself, IsRight, loose_of, change_of, untouched_cells, untouched_at, Stands}
+use Rattle.palm_arena.proofs.CellLists.{owned_same, same_append, same_trans, same_sym, same_eq, same_pass, same_swap}
+use Rattle.palm_arena.proofs.Untouched.{has_same, has_last}
 use Rattle.palm_arena.proofs.ListParts.{same_parted, same_each, flat_each, flat_flat, flat_map', map_map, map_all, all_map, all_both}
 use Rattle.palm_route.specs.declared.part.Part.{Part}
 use Rattle.palm_leaf.specs.Ends.{LeafEnd, LeavesEnd, pieces_at, leaf_cells, change_at, changes_at, cells_at, Fit}
@@ -220,6 +221,7 @@ leaves_stand d root touched rest old new loads changes loose sites stills hit ow
       removed = refl;
       loose = subst (λ rows. IsPermutation (loose ++ []) rows) loosed (IsPermutation-refl (loose ++ []));
       owned = finish;
+      untouched = subst (λ cs. HasCells new (hs ++ cs)) (sym untouched_are) (has_same new (stays ++ hs) (hs ++ stays) (has_last new after (stays ++ hs) (rest, subst (Owns new) (sym order) now)) (same_swap stays hs));
     }
   where
     s : Spread d loads ended.ids
@@ -288,6 +290,15 @@ leaves_stand d root touched rest old new loads changes loose sites stills hit ow
     now =
         subst (λ (cs : List Cell). Owns new (cs ++ (stays ++ (hs ++ rest)))) s.cells-are
         (ended.turned (stays ++ (hs ++ rest)) (subst (λ (cs : List Cell). Owns old (cs ++ (stays ++ (hs ++ rest)))) (sym touched_cells) start))
+
+    order : (after ++ (stays ++ hs)) ++ rest ≡ after ++ (stays ++ (hs ++ rest))
+    order = append_assoc after (stays ++ hs) rest ∙ ap (λ cs. after ++ cs) (append_assoc stays hs rest)
+
+    untouched_are : untouched_at touched zero (sites_at d zero root) ≡ stays
+    untouched_are =
+        let own : Site zero → List Cell = λ site. untouched_cells touched zero site.place in
+        ap (flat_map own) (sym sites) ∙ flat_map' (λ (load : LeafLoad). load.site) own loads ∙ ap (flat_map (λ (load : LeafLoad). own load.site)) (sym s.loads-are) ∙ flat_map' (λ (t : LeafTurn). t.load) (λ (load : LeafLoad). own load.site) turns
+        ∙ flat_each (IsTurn touched d) (λ (t : LeafTurn). own t.load.site) turn_stays (λ t is. ap (λ (b : Bool). cond b [] (load_cell t.load ∷ [])) is.hit) turns are
 
     done : SameCells (after ++ stays) under
     done =

@@ -1,9 +1,12 @@
 -- Parts that are cut into shares, routed by share, and joined: they are the same parts, and each is at its leaf.
-use Rattle.std.proofs.Common.{◌≡◌, ℕ, zero, suc, ◌+◌, ◌<◌, ◌≤◌, List, [], ◌∷◌, ◌++◌, length, get_or, map, take, drop, Option, Some, None, refl, sym, ap, subst, arith, ◌∙◌, ◌⊎◌, inl, inr}
+use Rattle.std.proofs.Common.{◌≡◌, ℕ, zero, suc, ◌+◌, ◌<◌, ◌≤◌, List, [], ◌∷◌, ◌++◌, length, get_or, map, take, drop, Option, Some, None, refl, sym, ap, subst, arith, ◌∙◌, inl, inr}
 use Rattle.std.specs.Prelude.{slice_set}
 use Rattle.std.specs.List.{AllByRecursion, AllZip, flat_map}
-use Rattle.std.proofs.lemmas.List.{length-take, length-drop, length-map, map-append, map-id, take-append-drop}
+use Rattle.std.proofs.lemmas.List.{length-map, map-append, map-id, take-append-drop}
 use Rattle.std.proofs.lemmas.List.Folds.{length-flat_map-take}
+use Rattle.std.proofs.Math.Nat.{mul-le-mul_right, le-mul_of_pos_right, suc-mul}
+use Rattle.std.proofs.lemmas.Bool.{cases_lt}
+use Rattle.std.proofs.lemmas.Grind.{div_ceil_times}
 use Rattle.palm_arena.specs.ArenaState.{ArenaState}
 use Rattle.palm_arena.specs.declared.shape.Shape.{Shape}
 use Rattle.palm_arena.specs.Leaves.{leaves_at}
@@ -14,7 +17,7 @@ use Rattle.palm_route.specs.declared.descent.DescentWork.{DescentWork}
 use Rattle.palm_route.specs.declared.part.Part.{Part}
 use Rattle.palm_route.specs.declared.part.Routed.{Routed}
 use Rattle.palm_route.specs.Groups.{IsRoutedTo}
-use Rattle.palm_route.specs.Shares.{HasRoom, AreCut, share_of, routed_of}
+use Rattle.palm_route.specs.Shares.{HasRoom, share_size, AreCut, share_of, routed_of}
 
 -- A share of parts for this tree, before its parts are routed.
 abbrev pub Begins : ArenaState → Shape → DescentWork → Type 0
@@ -26,26 +29,23 @@ Ran before after =
     (map (λ (one : Routed). one.part) after.routed.items ≡ before.parts.now)
     × AllByRecursion (IsRoutedTo (leaves_at (map_of before.arena.now.places) before.shape)) after.routed.items
 
--- An item that was run is there.
-pub all_there : {X : Type 0} (R : X → X → Type 0) (before after : List (Option X)) → AllZip (Relates R) before after → AllByRecursion (Holds (λ (x : X). Unit {0})) after
-all_there R [] [] ran = tt
-all_there R [] (item ∷ after) ran = absurd ran
-all_there R (item ∷ before) [] ran = absurd ran
-all_there R (None ∷ before) (other ∷ after) ran = absurd ran.0
-all_there R (Some item ∷ before) (None ∷ after) ran = absurd ran.0
-all_there R (Some item ∷ before) (Some other ∷ after) ran = (tt, all_there R before after ran.1)
-
--- Where the parts aren't one share, they are none, or more than a share has.
-pub none_or_more : (size : ℕ) (parts : List Part) (shares : List (List Part)) → AreCut size parts shares → (length shares ≡ 1 → ⊥) → (length parts ≡ 0) ⊎ (size < length parts)
-none_or_more size parts [] cut other = inl (ap length cut)
-none_or_more size parts (share ∷ []) cut other = absurd (other refl)
-none_or_more size parts (share ∷ next ∷ shares) cut other =
-    inr (omega (arith, cut.2.1, ap length cut.2.0, length-take size (drop size parts), length-drop size parts))
-
 -- Shares hold all parts.
-cut_whole : (size : ℕ) (parts : List Part) (works : List (Option DescentWork)) → AreCut size parts (map share_of works) → flat_map share_of works ≡ parts
-cut_whole size parts [] cut = sym cut
-cut_whole size parts (work ∷ works) cut = rw (cut.0, cut_whole size (drop size parts) works cut.2) (take-append-drop size parts)
+cut_whole : (parts : List Part) (works : List (Option DescentWork)) → AreCut parts (map share_of works) → flat_map share_of works ≡ parts
+cut_whole parts [] cut = sym cut
+cut_whole parts (work ∷ works) cut =
+    let size = share_size (length parts) (suc (length (map share_of works))) in
+    rw (cut.0, cut_whole (drop size parts) works cut.1) (take-append-drop size parts)
+
+-- The first share has no more parts than there are.
+pub size_fits : (count shares : ℕ) → 0 < shares → share_size count shares ≤ count
+size_fits count shares some = elim (cases_lt count (share_size count shares)) [
+  | inl more ↦ absurd (let up = mul-le-mul_right shares more in omega (arith, up, suc-mul count shares, le-mul_of_pos_right count some, (div_ceil_times count shares some).1))
+  | inr fits ↦ fits
+]
+
+-- The last share takes all that are left.
+pub last_takes_all : (count : ℕ) → count ≤ share_size count 1
+last_takes_all count = let all = (div_ceil_times count 1 (omega arith)).0 in omega (arith, all)
 
 -- The routed parts of all shares are the parts before, each at its leaf.
 same_parts : (before after : List (Option DescentWork)) → AllZip (Relates Ran) before after → map (λ (one : Routed). one.part) (flat_map routed_of after) ≡ flat_map share_of before
@@ -74,28 +74,19 @@ pub record AreRouted (arena : ArenaState) (shape : Shape) (parts : List Part) (r
   pub same : map (λ (one : Routed). one.part) routed ≡ parts
   pub at_leaves : AllByRecursion (IsRoutedTo (leaves_at (map_of arena.places) shape)) routed
 
-pub are_routed : (arena : ArenaState) (shape : Shape) (size : ℕ) (parts : List Part) (before after : List (Option DescentWork))
-    → AreCut size parts (map share_of before) → AllByRecursion (Holds (Begins arena shape)) before → AllZip (Relates Ran) before after
+pub are_routed : (arena : ArenaState) (shape : Shape) (parts : List Part) (before after : List (Option DescentWork))
+    → AreCut parts (map share_of before) → AllByRecursion (Holds (Begins arena shape)) before → AllZip (Relates Ran) before after
     → AreRouted arena shape parts (flat_map routed_of after)
-are_routed arena shape size parts before after cut begin ran = record {
-  same = same_parts before after ran ∙ cut_whole size parts before cut;
+are_routed arena shape parts before after cut begin ran = record {
+  same = same_parts before after ran ∙ cut_whole parts before cut;
   at_leaves = all_routed arena shape before after begin ran;
 }
 
--- Where all parts aren't one share, there is room for the routed ones that has room for more parts than a share has.
-pub join_fits : (arena : ArenaState) (shape : Shape) (size room : ℕ) (parts : List Part) (before after : List (Option DescentWork))
-    → AreCut size parts (map share_of before) → AllByRecursion (Holds (Begins arena shape)) before → AllZip (Relates Ran) before after → length after ≡ length before
-    → (size < length parts → length parts ≤ room) → (length after ≡ 1 → ⊥) → length (flat_map routed_of after) ≤ room
-join_fits arena shape size room parts before after cut begin ran count enough other =
-    by (none_or_more size parts (map share_of before) cut (λ one. other (count ∙ sym (length-map before share_of) ∙ one)))
-  where
-    total : length (flat_map routed_of after) ≡ length parts
-    total =
-        sym (length-map (flat_map routed_of after) (λ (one : Routed). one.part)) ∙ ap length (are_routed arena shape size parts before after cut begin ran).same
-
-    by : (length parts ≡ 0) ⊎ (size < length parts) → length (flat_map routed_of after) ≤ room
-    by (inl none) = omega (arith, total, none)
-    by (inr more) = omega (arith, total, enough more)
+-- There are as many routed parts as parts.
+pub routed_count : (arena : ArenaState) (shape : Shape) (parts : List Part) (before after : List (Option DescentWork))
+    → AreCut parts (map share_of before) → AllByRecursion (Holds (Begins arena shape)) before → AllZip (Relates Ran) before after → length (flat_map routed_of after) ≡ length parts
+routed_count arena shape parts before after cut begin ran =
+    sym (length-map (flat_map routed_of after) (λ (one : Routed). one.part)) ∙ ap length (are_routed arena shape parts before after cut begin ran).same
 
 -- Writing over the last item.
 pub last_set : {X : Type 0} (xs : List X) (x y : X) (n : ℕ) → n ≡ length xs → slice_set (xs ++ x ∷ []) n y ≡ xs ++ y ∷ []

@@ -145,8 +145,3 @@ pub mark_added : (routed : List Routed) (i : ℕ) (one : Routed) (now next : Lis
 mark_added routed i one now next got so_far more =
     let n : suc i ≡ i + 1 = omega arith in
     more ∙ ap (λ (l : List Mark). l ++ record { low = one.low; place = i } ∷ []) so_far ∙ sym (marks_more 0 routed i one i got (omega arith)) ∙ ap (λ j. marks_from 0 (take j routed)) n
-
--- What stands in a vector after all of its places are written.
-pub whole_written : {X : Type 0} (xs new : List X) (n : ℕ) → n ≡ length xs → length new ≡ length xs → take n (new ++ drop (length new) xs) ≡ new
-whole_written xs new n count same =
-    ap (λ (l : List _). take n (new ++ l)) (drop_all (length new) xs (omega (arith, same))) ∙ ap (take n) (append-nil new) ∙ take_all n new (omega (arith, count, same))

@@ -1,6 +1,7 @@
 -- Shares of parts, each of which one worker routes.
-use Rattle.std.specs.Prelude.{◌≡◌, ℕ, ◌<◌, ◌≤◌, List, [], ◌∷◌, ◌++◌, length, take, drop, Option, Some, None}
+use Rattle.std.specs.Prelude.{◌≡◌, ℕ, ◌+◌, ◌/◌, ◌%◌, min, ◌≤◌, List, [], ◌∷◌, ◌++◌, length, take, drop, Option, Some, None}
 use Rattle.std.specs.Vec.{vec_capacity}
+use Rattle.std.proofs.Common.{suc}
 use Rattle.palm_arena.specs.Leaves.{LeafPlace}
 use Rattle.palm_route.specs.Groups.{IsRoutedTo}
 use Rattle.palm_route.specs.declared.descent.DescentWork.{DescentWork}
@@ -29,8 +30,15 @@ RoutesOne places part before after = (one : Routed) × (after ≡ before ++ one 
 abbrev pub HasRoom : DescentWork → Type 0
 HasRoom work = (work.routed.items ≡ []) × (length work.parts.now ≤ vec_capacity work.routed)
 
--- The shares have these parts, in order: each has `size` of them, and the last may have fewer. None is empty.
--- So five parts in shares of two are two, two and one, and no parts are no shares.
-abbrev pub AreCut : ℕ → List Part → List (List Part) → Type 0
-AreCut size parts [] = parts ≡ []
-AreCut size parts (share ∷ shares) = (share ≡ take size parts) × (0 < length share) × AreCut size (drop size parts) shares
+-- How many parts the first of so many shares has: as few as leave the others no more than it has itself.
+-- So of seven parts in five shares it has 2, and so has the first of four shares of the five parts that are left.
+abbrev pub share_size : ℕ → ℕ → ℕ
+share_size count shares = count / shares + min 1 (count % shares)
+
+-- The shares have these parts, in order, and no share has two parts more than another.
+-- So seven parts in five shares are two, two, one, one and one, and no parts are no shares.
+abbrev pub AreCut : List Part → List (List Part) → Type 0
+AreCut parts [] = parts ≡ []
+AreCut parts (share ∷ shares) =
+    let size = share_size (length parts) (suc (length shares)) in
+    (share ≡ take size parts) × AreCut (drop size parts) shares

@@ -1,7 +1,7 @@
 // The way of a part down the tree: at each inner node to the child whose range has the part's key.
-ghost use Rattle.std.specs.Prelude.{◌≡◌, ◌<◌, ◌≤◌, [], length, map, All, IfOk};
+ghost use Rattle.std.specs.Prelude.{◌≡◌, ◌<◌, ◌≤◌, ◌⊎◌, [], length, map, All, IfOk};
 ghost use Rattle.std.specs.List.{AllByRecursion, flat_map};
-ghost use Rattle.std.specs.Vec.{vec_capacity};
+ghost use Rattle.std.specs.Vec.{vec_len, vec_capacity};
 ghost use Rattle.palm_arena.specs.Leaves.{leaves_at};
 ghost use Rattle.palm_arena.specs.Reads.{map_of, HasTree};
 ghost use Rattle.palm_share.specs.Jobs.{Holds};
@@ -82,22 +82,23 @@ impl<'a> Job for DescentWork<'a> {
     }
 }
 
-// Cuts parts into shares of `size`, of which the last may have fewer.
+// Cuts parts into so many shares, no two of which differ by more than one part.
 fn cut<'a>(
     alloc: Global,
     arena: &'a Arena,
     shape: Shape,
     parts: &'a [Part],
-    size: usize,
+    shares: usize,
 ) -> Result<Vec<Option<DescentWork<'a>>>, NoMemory>
-    requires { 0 < size }
-    ensures shares { IfOk result (λ works. AreCut size parts.now (map share_of works.items)) }
+    requires { length parts.now ≡ 0 ⊎ 0 < shares }
+    ensures shares { IfOk result (λ works. AreCut parts.now (map share_of works.items)) }
+    ensures count { IfOk result (λ works. vec_len works ≡ shares) }
     ensures begin { IfOk result (λ works. AllByRecursion (Holds (λ work. (work.arena.now ≡ arena.now) × (work.shape ≡ shape) × HasRoom work)) works.items) }
 {
     let mut rest = parts;
-    let mut works = Vec::with_capacity(alloc, parts.len().div_ceil(size))?;
-    while !rest.is_empty() {
-        let (parts, behind) = rest.split_at(size.min(rest.len()));
+    let mut works = Vec::with_capacity(alloc, shares)?;
+    while works.len() < shares {
+        let (parts, behind) = rest.split_at(rest.len().div_ceil(shares - works.len()));
         let routed = Vec::with_capacity(alloc, parts.len())?;
         works.push_reserved(Some(DescentWork {
             arena,
@@ -111,10 +112,10 @@ fn cut<'a>(
 }
 
 // For how many routed parts there must be room beside their shares: for none where all are one share.
-fn room_beside(count: usize, size: usize) -> usize
-    ensures { size < count → result ≡ count }
+fn room_beside(count: usize, shares: usize) -> usize
+    ensures { (shares ≡ 1 → ⊥) → result ≡ count }
 {
-    if count <= size { 0 } else { count }
+    if shares == 1 { 0 } else { count }
 }
 
 // Moves the routed parts of all shares to where there is room for them.
@@ -151,8 +152,8 @@ fn join(mut works: Vec<Option<DescentWork<'_>>>, mut room: Vec<Routed>) -> Vec<R
 }
 
 /// Routes parts down a tree, by at most `workers` workers beside each other: each part to the leaf whose range has its key.
-/// The parts keep their order. They are cut into at most `workers` shares, all of the same size but the last. Before each
-/// share its worker passes the gate.
+/// The parts keep their order. They are cut into as many shares as there are workers, or as there are parts where these are
+/// fewer, and no share has two parts more than another. Before each share its worker passes the gate.
 ///
 /// `NoMemory` where room for them was refused, before any worker starts.
 pub fn descend<R: Threads + Sync, G: Gate + Sync>(
@@ -170,9 +171,9 @@ pub fn descend<R: Threads + Sync, G: Gate + Sync>(
     ensures parts { IfOk result (λ routed. map (λ one. one.part) routed ≡ parts) }
     ensures routed { IfOk result (λ routed. AllByRecursion (IsRoutedTo (leaves_at (map_of arena.now.places) shape)) routed) }
 {
-    let size = parts.len().div_ceil(workers as usize).max(1);
-    let room = Vec::with_capacity(alloc, room_beside(parts.len(), size))?;
-    let mut works = cut(alloc, arena, shape, parts.as_slice(), size)?;
+    let shares = parts.len().min(workers as usize);
+    let room = Vec::with_capacity(alloc, room_beside(parts.len(), shares))?;
+    let mut works = cut(alloc, arena, shape, parts.as_slice(), shares)?;
     each_mut(rt, alloc, works.as_mut_slice(), workers, gate);
     Ok(ItemList::from_vec(join(works, room)))
 }

@@ -177,9 +177,71 @@ fn assert_routed(
 #[test]
 fn routes_each_call_to_the_leaf_of_an_empty_tree(rt: HostRuntime) -> Result<(), Fail> {
     let (arena, shape) = empty_tree::<Brand>(rt.alloc(), Blank::new(1))?;
-    // in shares of 7, 4, 3, 2 and 1
-    for (workers, shares) in [(1, 1), (2, 2), (3, 3), (4, 4), (5, 4), (64, 7)] {
+    for (workers, shares) in [(1, 1), (2, 2), (3, 3), (4, 4), (5, 5), (64, 7)] {
         assert_routed(&rt, rt.alloc(), &arena, shape, workers, shares)?;
+    }
+    Ok(())
+}
+
+// A batch of so many Gets, each of which has one part.
+fn batch_of_gets(rt: &impl Abort, alloc: Global, count: usize) -> Result<Vec<Entry>, NoMemory> {
+    let prefix = digits(rt, "44");
+    let mut batch = Vec::new(alloc);
+    for _ in 0..count {
+        batch.push(Entry {
+            caller: 0,
+            place: 0,
+            call: Call::Get { prefix },
+        })?;
+    }
+    Ok(batch)
+}
+
+// So many parts are routed by so many workers in this number of shares.
+fn assert_shares(
+    rt: &(impl Abort + Threads + Sync),
+    alloc: Global,
+    arena: &Arena,
+    shape: Shape,
+    count: usize,
+    workers: u32,
+    shares: u64,
+) -> Result<(), NoMemory>
+    requires tree { HasTree (map_of arena.now.places) shape }
+    requires some { 1 ≤ workers }
+    requires few { workers ≤ MOST_WORKERS }
+{
+    let batch = batch_of_gets(rt, alloc, count)?;
+    let parts = expand(alloc, arena, shape, &batch)?;
+    let gate = Passed {
+        count: AtomicU64::new(0),
+    };
+    let routed = descend(rt, alloc, arena, shape, parts, workers, &gate)?;
+    assert_eq!(rt; routed.len(), count);
+    assert_eq!(rt;
+        gate.count.load(Ordering::SeqCst),
+        shares,
+        "{count} parts, {workers} workers"
+    );
+    Ok(())
+}
+
+#[test]
+fn parts_are_routed_in_a_share_for_each_worker_that_has_one(rt: HostRuntime) -> Result<(), Fail> {
+    let (arena, shape) = empty_tree::<Brand>(rt.alloc(), Blank::new(1))?;
+    // the parts, and the shares of 1, 3, 5 and 64 workers
+    for (parts, shares) in [
+        (0, [0, 0, 0, 0]),
+        (1, [1, 1, 1, 1]),
+        (2, [1, 2, 2, 2]),
+        (7, [1, 3, 5, 7]),
+        (12, [1, 3, 5, 12]),
+        (64, [1, 3, 5, 64]),
+    ] {
+        assert_shares(&rt, rt.alloc(), &arena, shape, parts, 1, shares[0])?;
+        assert_shares(&rt, rt.alloc(), &arena, shape, parts, 3, shares[1])?;
+        assert_shares(&rt, rt.alloc(), &arena, shape, parts, 5, shares[2])?;
+        assert_shares(&rt, rt.alloc(), &arena, shape, parts, 64, shares[3])?;
     }
     Ok(())
 }

@@ -1,4 +1,4 @@
-use Rattle.std.proofs.Common.{◌≡◌, ◌≤◌, ◌-◌, ◌*◌, List, ◌++◌, length, map, vec_len, vec_capacity}
+use Rattle.std.proofs.Common.{◌≡◌, ◌≤◌, ◌-◌, List, ◌++◌, length, map, vec_len, vec_capacity}
 use Rattle.std.specs.List.{AllByRecursion}
 use Rattle.palm_share.specs.Jobs.{Holds}
 use Rattle.palm_route.specs.declared.descent.DescentWork.{DescentWork}
@@ -6,15 +6,16 @@ use Rattle.palm_route.specs.declared.part.Part.{Part}
 use Rattle.palm_route.specs.Shares.{HasRoom, AreCut, share_of}
 use Rattle.palm_route.proofs.descent.cut.Given as goal
 
--- shares of the rest complete the shares of all parts, each share so far is there to be routed, and there is room for the
--- others, since each but the last has `size` parts
+-- as many shares of the rest as are wanted yet complete the shares of all parts, each share so far is there to be routed, and
+-- after the last share no part is left
 abbrev pub invariant-loop-rest : goal.invariant-loop-rest
 invariant-loop-rest l = record {
-  more : (shares : List (List Part)) → AreCut l.size l.rest shares → AreCut l.size l.fn.parts (map share_of l.works.items ++ shares);
+  more : (later : List (List Part)) → length later ≡ l.shares - vec_len l.works → AreCut l.rest later → AreCut l.fn.parts (map share_of l.works.items ++ later);
   begin : AllByRecursion (Holds (λ (work : DescentWork). (work.arena.now ≡ l.arena) × (work.shape ≡ l.shape) × HasRoom work)) l.works.items;
-  rest : length l.rest ≡ length l.fn.parts - vec_len l.works * l.size;
-  room : length l.fn.parts ≤ vec_capacity l.works * l.size;
+  count : vec_len l.works ≤ l.shares;
+  last : vec_len l.works ≡ l.shares → length l.rest ≡ 0;
+  room : l.shares ≤ vec_capacity l.works;
 }
 
 abbrev pub decreases-loop-rest : goal.decreases-loop-rest
-decreases-loop-rest l = length l.rest
+decreases-loop-rest l = l.shares - vec_len l.works

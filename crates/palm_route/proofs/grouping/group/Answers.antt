@@ -4,7 +4,8 @@ use Rattle.std.specs.Ordering.{nat_cmp}
 use Rattle.std.proofs.lemmas.Result.{IfOk-weaker}
 use Rattle.palm_route.specs.Marks.{marks_from}
 use Rattle.palm_route.proofs.MarkedParts.{marks_within}
-use Rattle.palm_route.proofs.SortedParts.{low_of, grouped, whole_written}
+use Rattle.palm_share.proofs.RunItems.{whole_written}
+use Rattle.palm_route.proofs.SortedParts.{low_of, grouped}
 use Rattle.palm_route.proofs.grouping.group.Goals as goal
 
 pub runs-requires : goal.runs-requires
