@@ -16,7 +16,7 @@ use Rattle.palm_route.proofs.Descents.{tree_ascends, leaves_rise}
 use Rattle.palm_leaf.proofs.LeavesAnswer.{the_leaves_answer}
 use Rattle.palm_batch.specs.Passing.{IsTree, answers_at}
 use Rattle.palm_batch.specs.Replies.{AreAnswers}
-use Rattle.palm_batch.proofs.ClosedTrees.{tree_table}
+use Rattle.palm_base.proofs.LiteralTrees.{lawful_table}
 use Rattle.palm_batch.proofs.PassedTrees.{tree_there, parts_have_keys}
 
 lows_begin : (high : ℕ) (places : List LeafPlace) → Ascends 0 high places → lows_of places ≡ 0 ∷ drop 1 (lows_of places)
@@ -32,7 +32,7 @@ leaves_answer_batch nodes shape tree batch is edits =
     record {
       begin = lows_begin up.0 places up.1;
       rise = leaves_rise nodes shape there;
-      table = tree_table tree is.lawful;
+      table = lawful_table tree is.lawful;
       prefixes = prefixes_in tree.0 tree.1 is.lows;
       are = the_leaves_answer nodes shape tree (parts_of places 0 batch) is.reads-as is.lawful (parts_have_keys places 0 batch edits);
     }

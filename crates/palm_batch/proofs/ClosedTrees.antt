@@ -6,17 +6,15 @@ use Rattle.palm_base.specs.History.{calls_of, replies_to, table_after}
 use Rattle.palm_base.specs.Lawful.{IsLawful}
 use Rattle.palm_base.specs.Lows.{LowsAreKeys}
 use Rattle.palm_base.specs.Pass.{batch_tree}
-use Rattle.palm_base.specs.Table.{IsTable}
 use Rattle.palm_base.specs.Tree.{Tree, rows_of}
 use Rattle.palm_base.specs.declared.call.Entry.{Entry}
 use Rattle.palm_base.specs.declared.call.Reply.{Reply}
 use Rattle.palm_base.proofs.Batches.{batches_keep_rows, batches_keep_law}
 use Rattle.palm_base.proofs.Histories.{histories_go_by_calls}
 use Rattle.palm_base.proofs.LevelCounts.{prefixes_are_few}
-use Rattle.palm_base.proofs.LiteralTrees.{root_to}
+use Rattle.palm_base.proofs.LiteralTrees.{lawful_table}
 use Rattle.palm_base.proofs.Lows.{prefixes_in}
 use Rattle.palm_base.proofs.Replies.{replies_are_as_many}
-use Rattle.palm_base.proofs.RisingTables.{rising_is_table}
 use Rattle.palm_node.specs.declared.id.NodeId.{NodeId}
 use Rattle.palm_arena.specs.ArenaState.{ArenaState, node_at, node_in, IsHeld, IsVacant, NoneLent}
 use Rattle.palm_arena.specs.Reads.{map_of, IsWhole}
@@ -30,14 +28,11 @@ use Rattle.palm_batch.proofs.RowCounts.{rows_counted}
 
 -- ---- the rows
 
-pub tree_table : (tree : Tree) → IsLawful tree → IsTable (rows_of tree)
-tree_table tree lawful = rising_is_table 0 lawful.0 (rows_of tree) (root_to tree.0 lawful.0 tree.1 lawful.1).1
-
 -- A tree's rows and a batch of at most so many calls come to a number that fits a word.
 pub rows_fit : (tree : Tree) (batch : List Entry) (replies : List Reply) (rows : ℕ) → IsLawful tree → LowsAreKeys tree → replies ≡ replies_to (rows_of tree) batch
     → length (rows_of tree) ≡ rows → length batch ≤ 65536 → rows + length replies < 2 ^ 64
 rows_fit tree batch replies rows lawful lows are count most =
-    let few = prefixes_are_few (rows_of tree) (tree_table tree lawful) (prefixes_in tree.0 tree.1 lows) in
+    let few = prefixes_are_few (rows_of tree) (lawful_table tree lawful) (prefixes_in tree.0 tree.1 lows) in
     let many = ap length are ∙ replies_are_as_many (rows_of tree) batch in
     omega (arith, few, many, count, most)
 
@@ -45,14 +40,14 @@ rows_fit tree batch replies rows lawful lows are count most =
 pub rows_stand : (tree : Tree) (batch : List Entry) (replies : List Reply) (rows : ℕ) → IsLawful tree → replies ≡ replies_to (rows_of tree) batch
     → length (rows_of tree) ≡ rows → count_by is_gone replies ≤ rows + count_by is_new replies
 rows_stand tree batch replies rows lawful are count =
-    let counted = rows_counted (rows_of tree) batch (tree_table tree lawful) in
+    let counted = rows_counted (rows_of tree) batch (lawful_table tree lawful) in
     rw are (omega (arith, counted, count))
 
 -- The rows of the batch's tree are as many as the replies tell.
 pub rows_close : (tree : Tree) (batch : List Entry) (replies : List Reply) (rows left : ℕ) → IsLawful tree → replies ≡ replies_to (rows_of tree) batch
     → length (rows_of tree) ≡ rows → left + count_by is_gone replies ≡ rows + count_by is_new replies → length (rows_of (batch_tree tree (calls_of batch))) ≡ left
 rows_close tree batch replies rows left lawful are count told =
-    let counted = rows_counted (rows_of tree) batch (tree_table tree lawful) in
+    let counted = rows_counted (rows_of tree) batch (lawful_table tree lawful) in
     let same : length (rows_of (batch_tree tree (calls_of batch))) ≡ length (table_after (rows_of tree) batch) =
     ap length (batches_keep_rows tree (calls_of batch) lawful ∙ sym (histories_go_by_calls (rows_of tree) batch)) in
     let now = subst (λ replies. left + count_by is_gone replies ≡ rows + count_by is_new replies) are told in

@@ -10,3 +10,4 @@ pub mod PassedTrees
 mod RateReplies
 mod RowCounts
 mod SecondPasses
+mod OpenReplies

@@ -1,3 +1,4 @@
 pub mod Costs
+pub mod OpenCalls
 pub mod Passing
 pub mod Replies

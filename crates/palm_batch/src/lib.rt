@@ -3,6 +3,7 @@
 #![tactic(auto)]
 
 mod batch;
+mod open_calls;
 mod pass;
 mod passes;
 mod replies;

@@ -46,7 +46,8 @@ fn sets_of(alloc: Global, rows: &[Row]) -> Result<Vec<Entry>, NoMemory>
     Ok(rows.iter().map(set_entry).collect(alloc)?)
 }
 
-// Runs a batch over the tree at `shape`, whose arena a batch is under way in. Where memory is refused it has to be rolled back.
+// Runs a batch over the tree at `shape`, whose arena a batch is under way in. Where memory is refused it has to be rolled back. A
+// batch of no calls touches nothing.
 pub(crate) fn run_passes<R: Threads + Sync, G: Gate + Sync, L: Ledger>(
     rt: &R,
     alloc: Global,
@@ -69,6 +70,10 @@ pub(crate) fn run_passes<R: Threads + Sync, G: Gate + Sync, L: Ledger>(
     ensures ticks { (tree : Tree) → IsTree tree (map_of arena.old.places) shape → steps.new ≤ steps.old + cost_on tree batch.now }
     ensures moved { length arena.new.moved + steps.old ≤ length arena.old.moved + steps.new }
 {
+    if batch.is_empty() {
+        let replies = Vec::new(alloc);
+        return Ok(Ran { shape, replies });
+    }
     let Passed {
         shape,
         answers,

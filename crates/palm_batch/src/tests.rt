@@ -9,7 +9,7 @@ use crate::calls::{amount, del, digits, entries, get, list, rate, set};
 use crate::replies::join_answers;
 use crate::stage_tests::built;
 use palm_base::text::{append, append_rate, append_row, append_rows};
-use palm_base::{Amount, Call, Digits, Entry, NoMemory, Reply, Steps};
+use palm_base::{Amount, Call, Digits, Entry, Limit, NoMemory, Reply, Steps};
 use palm_leaf::{AnswerList, LeafAnswer, PartAnswer};
 use palm_route::{Ask, Part};
 use palm_share::{MOST_WORKERS, OpenGate};
@@ -186,6 +186,86 @@ fn rates_and_lists_are_answered_on_the_table_that_the_calls_before_them_leave(
         let told = shown(alloc, &replies)?;
         assert!(rt; told.as_slice() == RATED_AND_LISTED, "{workers} workers");
         assert_eq!(rt; tree.row_count(), 18, "{workers} workers");
+    }
+    Ok(())
+}
+
+// A prefix of one to three of the digits 1 to 3.
+fn drawn_prefix(rt: &impl Abort, state: &mut u64) -> Digits {
+    let drawn = draw(state);
+    let text = [
+        b'1' + (drawn % 3) as u8,
+        b'1' + (drawn / 3 % 3) as u8,
+        b'1' + (drawn / 9 % 3) as u8,
+    ];
+    Digits::read(&text[..1 + (drawn / 27 % 3) as usize]).expect(rt, "a prefix")
+}
+
+fn draw(state: &mut u64) -> u64 {
+    *state = state
+        .wrapping_mul(6_364_136_223_846_793_005)
+        .wrapping_add(1_442_695_040_888_963_407);
+    *state >> 33
+}
+
+// As many look-ups as edits, of prefixes so short that many meet.
+fn drawn_call(rt: &impl Abort, state: &mut u64) -> Call {
+    let prefix = drawn_prefix(rt, state);
+    match draw(state) % 6 {
+        0 | 1 => Call::Set {
+            prefix,
+            rate: amount(rt, *state >> 44),
+        },
+        2 => Call::Del { prefix },
+        3 => Call::Get { prefix },
+        4 => Call::Rate { number: prefix },
+        _ => Call::List {
+            from: prefix,
+            to: drawn_prefix(rt, state),
+            limit: Limit::new(1 + (*state >> 60) as u32).expect(rt, "a limit"),
+        },
+    }
+}
+
+fn drawn_calls(rt: &impl Abort, alloc: Global, seed: u64) -> Result<Vec<Call>, Fail> {
+    let mut state = seed;
+    let mut calls = Vec::new(alloc);
+    for _ in 0..24 {
+        calls.push(drawn_call(rt, &mut state))?;
+    }
+    Ok(calls)
+}
+
+// The replies to calls on a tree of 10 to 26, one batch after another of so many calls at most.
+fn told<R: Threads + Sync + Abort>(
+    rt: &R,
+    alloc: Global,
+    calls: &[Call],
+    most: usize,
+    workers: u32,
+) -> Result<Vec<u8>, Fail>
+    requires most { 1 ≤ most }
+    requires some { 1 ≤ workers }
+    requires few { workers ≤ MOST_WORKERS }
+{
+    let mut tree = built(rt, alloc, 10, 26)?;
+    let mut told = Vec::new(alloc);
+    for batch in calls.chunks(most) {
+        let replies = replied(rt, alloc, &mut tree, batch, workers)?;
+        append(&shown(alloc, &replies)?, &mut told)?;
+    }
+    Ok(told)
+}
+
+#[test]
+fn calls_are_answered_alike_in_one_batch_and_one_by_one(rt: HostRuntime) -> Result<(), Fail> {
+    let alloc = rt.alloc();
+    for seed in 0..2_000 {
+        let workers = [1, 3, MOST_WORKERS][seed as usize % 3];
+        let calls = drawn_calls(&rt, alloc, seed)?;
+        let apart = told(&rt, alloc, &calls, 1, 1)?;
+        let together = told(&rt, alloc, &calls, calls.len().max(1), workers)?;
+        assert!(rt; together == apart, "seed {seed}, {workers} workers");
     }
     Ok(())
 }

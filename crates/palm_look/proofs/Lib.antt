@@ -1,0 +1,4 @@
+pub mod SortedKeys
+pub mod NumberFronts
+pub mod UnmetReplies
+pub mod JudgedShares

@@ -1,0 +1,4 @@
+pub mod EditKeys
+pub mod Met
+pub mod Shares
+pub mod Unmet
