@@ -75,7 +75,8 @@ fn read_through<S: Source>(
 
 /// Reads a source to its end, to its first fault, or to the byte too many, which is dropped.
 ///
-/// After the end of the source no further read is made. A fault of the source is no error here, but part of the answer.
+/// No further read is made then. No clause says so of a fault, which may raise a source's count by more than one. A fault of the
+/// source is no error here, but part of the answer.
 /// `NoMemory` leaves the source where it was read to.
 pub fn read_input<S: Source>(alloc: Global, src: &mut S) -> Result<Input, NoMemory>
     ensures read { IfOk result (λ input. IsRead (S.left src.old) (S.left src.new) (S.faults src.old) (S.faults src.new) input.bytes.items input.end) }

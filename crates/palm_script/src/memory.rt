@@ -213,18 +213,26 @@ impl Sink for MemSink {
     }
 }
 
-/// A sink that takes all and keeps nothing. It never fails, and tells no bytes.
+/// A sink that takes all that it is offered and keeps nothing. It never fails, and tells no bytes.
 #[derive(Clone, Copy, Debug, Default)]
 pub struct NullSink;
 
 impl Sink for NullSink {
-    ghost use Rattle.std.specs.Prelude.{None};
+    ghost use Rattle.std.specs.Prelude.{None, Ok};
 
     ghost taken = { λ _. None };
 
     ghost faults = { λ _. 0 };
 
-    fn write(&mut self, part: &[u8]) -> Result<usize, Failed> {
+    /// Takes the whole part.
+    fn write(&mut self, part: &[u8]) -> Result<usize, Failed>
+        ensures bound { WritesAtMost result part.now }
+        ensures bytes { WriteAppends None None result part.now }
+        ensures some { 0 < length part.now → IfOk result (λ n. 0 < n) }
+        ensures cause { HasCause 0 0 result }
+
+        ensures all { result ≡ Ok (length part.now) }
+    {
         Ok(part.len())
     }
 }

@@ -1,5 +1,8 @@
 // Sources and sinks over the readers and writers of std. They tell as much as those do.
-ghost use Rattle.std.specs.Prelude.{◌≡◌};
+ghost use Rattle.std.specs.Prelude.{◌≡◌, ◌<◌, length, take, IfOk};
+ghost use Rattle.std.specs.Io.{WritesAtMost};
+ghost use Rattle.std.specs.Io.KnownBytes.{Appends, WriteAppends};
+ghost use Rattle.palm_script.specs.Causes.{HasCause};
 
 use crate::traits::{Failed, Sink, Source};
 use std::io::{Read, Write};
@@ -46,9 +49,9 @@ impl<R: Read> Source for StdSource<R> {
     }
 }
 
-/// A sink over a writer of std, as standard output. Each write is flushed. It tells no bytes, and raises its count of
-/// faults at each error and where the writer takes nothing of a part that isn't empty. Where flushing fails, the writer may
-/// have taken a front of the part. Contracts see the writer and the count.
+/// A sink over a writer of std, as standard output. Each write is flushed. It tells no bytes as a sink, but as many as its writer
+/// tells. It raises its count of faults at each error and where the writer takes nothing of a part that isn't empty. Where flushing
+/// fails, the writer may have taken a front of the part. Contracts see the writer and the count.
 #[derive(Debug, Drop)]
 pub struct StdSink<W> {
     inner: W,
@@ -79,7 +82,15 @@ impl<W: Write> Sink for StdSink<W> {
 
     ghost faults = { λ s. s.1 };
 
-    fn write(&mut self, part: &[u8]) -> Result<usize, Failed> {
+    /// Hands the part to the writer, which then holds as many of its bytes as are answered.
+    fn write(&mut self, part: &[u8]) -> Result<usize, Failed>
+        ensures bound { WritesAtMost result part.now }
+        ensures bytes { WriteAppends None None result part.now }
+        ensures some { 0 < length part.now → IfOk result (λ n. 0 < n) }
+        ensures cause { HasCause self.old.1 self.new.1 result }
+
+        ensures contents { IfOk result (λ n. Appends (W.contents self.old.0) (W.contents self.new.0) (take n part.now)) }
+    {
         let written = self.inner.write(part);
         let flushed = self.inner.flush();
         match (written, flushed) {

@@ -2,6 +2,7 @@
 use super::*;
 use palm_base::{Amount, Call, Digits, Limit, Reply, Row, RowList};
 use std::alloc::Global;
+use std::io::{self, ErrorKind, Write};
 use std::process::Abort;
 use std::test::Fail;
 
@@ -195,6 +196,54 @@ fn a_source_is_read_to_its_end_or_fault(rt: HostRuntime) -> Result<(), Fail> {
     Ok(())
 }
 
+// A source that gives a byte at each read but the second, which ends the input, as a terminal may.
+#[derive(Drop)]
+struct Resumed {
+    reads: u64,
+}
+
+impl Source for Resumed {
+    ghost use Rattle.std.specs.Prelude.{None};
+
+    ghost left = { λ _. None };
+
+    ghost faults = { λ _. 0 };
+
+    fn read(&mut self, buf: &mut [u8]) -> Result<usize, Failed> {
+        self.reads = self.reads.saturating_add(1);
+        if self.reads == 2 || buf.is_empty() {
+            return Ok(0);
+        }
+        buf[0] = b'a';
+        Ok(1)
+    }
+}
+
+#[test]
+fn no_read_follows_the_end_of_input(rt: HostRuntime) -> Result<(), Fail> {
+    let mut src = Resumed { reads: 0 };
+    let input = read_input(rt.alloc(), &mut src)?;
+    assert_eq!(rt; input.bytes.as_slice(), b"a".as_slice());
+    assert_eq!(rt; input.end, InputEnd::Whole);
+    assert_eq!(rt; src.reads, 2);
+    Ok(())
+}
+
+// Reads of 3 bytes, of which the reads 1 and 2 fail. Read 2 is still to come after the reading, and so is what follows it.
+#[test]
+fn no_read_follows_a_fault(rt: HostRuntime) -> Result<(), Fail> {
+    let alloc = rt.alloc();
+    let mut src = MemSource::new(bytes(alloc, "abcdefgh")?, 3, numbers(alloc, &[1, 2])?);
+    let input = read_input(alloc, &mut src)?;
+    assert_eq!(rt; input.bytes.as_slice(), b"abc".as_slice());
+    assert_eq!(rt; input.end, InputEnd::Failed);
+    let mut buf = [0u8; 3];
+    assert_eq!(rt; src.read(&mut buf), Err(Failed));
+    assert_eq!(rt; src.read(&mut buf), Ok(3));
+    assert_eq!(rt; buf, *b"def");
+    Ok(())
+}
+
 #[test]
 fn what_was_not_taken_is_offered_again(rt: HostRuntime) -> Result<(), Fail> {
     let alloc = rt.alloc();
@@ -216,8 +265,53 @@ fn standard_forms_pass_bytes_on(rt: HostRuntime) -> Result<(), Fail> {
     assert_eq!(rt; buf, *b"ab");
     assert_eq!(rt; src.read(&mut buf), Ok(1));
     assert_eq!(rt; src.read(&mut buf), Ok(0));
-    let mut out = StdSink::new(Vec::new(alloc));
+    let mut taken = Vec::new(alloc);
+    let mut out = StdSink::new(&mut taken);
     assert_eq!(rt; out.write(b"abc"), Ok(3));
     assert_eq!(rt; out.write(b""), Ok(0));
+    assert_eq!(rt; taken.as_slice(), b"abc".as_slice());
+    Ok(())
+}
+
+// A writer that takes all, counts its flushes, and fails at the flush of this number, counted from 0.
+#[derive(Drop)]
+struct Flushed {
+    flushes: u64,
+    fail: u64,
+}
+
+impl Write for Flushed {
+    fn write(&mut self, buf: &[u8]) -> io::Result<usize> {
+        Ok(buf.len())
+    }
+
+    fn flush(&mut self) -> io::Result<()> {
+        let fails = self.flushes == self.fail;
+        self.flushes = self.flushes.saturating_add(1);
+        if fails {
+            return Err(io::Error::from(ErrorKind::Other));
+        }
+        Ok(())
+    }
+}
+
+#[test]
+fn each_standard_write_is_flushed_and_fails_where_its_flush_does(
+    rt: HostRuntime,
+) -> Result<(), Fail> {
+    let mut writer = Flushed {
+        flushes: 0,
+        fail: 1,
+    };
+    let mut out = StdSink::new(&mut writer);
+    for (part, want) in [
+        ("abc", Ok(3)),
+        ("de", Err(Failed)),
+        ("f", Ok(1)),
+        ("", Ok(0)),
+    ] {
+        assert_eq!(rt; out.write(part.as_bytes()), want, "{part}");
+    }
+    assert_eq!(rt; writer.flushes, 4);
     Ok(())
 }
