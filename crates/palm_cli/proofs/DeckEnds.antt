@@ -12,7 +12,7 @@ use Rattle.palm_script.specs.Causes.{Rose}
 use Rattle.palm_script.specs.declared.input.TheConstants.{MOST_BYTES}
 use Rattle.palm_words.specs.declared.settings.Mode.TheVariants.{Deck}
 use Rattle.palm_words.specs.declared.settings.Settings.{Settings}
-use Rattle.palm_cli.specs.Decks.{IsGoodDeck, deck_left}
+use Rattle.palm_cli.specs.Decks.{IsGoodDeck, IsBegunDeck, deck_left}
 use Rattle.palm_cli.specs.Ends.{Outside, EndsIn, KeepsWrites}
 use Rattle.palm_cli.specs.Reads.{IsEdits, IsNoDeck}
 use Rattle.palm_cli.specs.Stops.{status_of}
@@ -48,7 +48,7 @@ pub no_deck_ends : (settings : Settings) (left rest taken : Option (List ℕ)) (
 no_deck_ends settings left rest taken before now writes steps Done after unread = absurd unread
 no_deck_ends settings left rest taken before now writes steps Usage after unread = absurd unread
 no_deck_ends settings left rest taken before now writes steps (BadLine fault) after unread = absurd unread
-no_deck_ends settings left rest taken before now writes steps ReadFault after unread = (unread.0, (unread.1.0, unread.1.1, refl), refl)
+no_deck_ends settings left rest taken before now writes steps ReadFault after unread = (unread.0, (unread.1.0, unread.1.1, (unread.1.2, refl)), refl)
 no_deck_ends settings left rest taken before now writes steps WriteFault after unread = absurd unread
 no_deck_ends settings left rest taken before now writes steps NoMemory after unread = (refl, (unread.0, unread.1, stopped_at_once Deck settings unread.0 rest taken))
 no_deck_ends settings left rest taken before now writes steps TooLong after unread =
@@ -77,4 +77,5 @@ pub deck_stops : (settings : Settings) (stop : Stop) (o : Outside) (edits : List
     → AppendsFront o.taken o.now (deck_left edits) → (stop ≡ Write → Rose o.writes_before o.writes_now) → (stop ≡ Memory → KeepsWrites o)
     → EndsIn Deck settings (status_of stop) o after
 deck_stops settings stop o edits after read front rose kept =
-    stop_ends Deck settings stop o after rose kept (read.bytes, read.whole, inr (read.end, read.size, (edits, read.says, front)))
+    let begun : IsBegunDeck read.bytes o.rest o.taken o.now = (read.end, read.size, (edits, read.says, front)) in
+    stop_ends Deck settings stop o after rose kept (read.bytes, read.whole, inr begun) (read.bytes, read.whole, begun)

@@ -3,8 +3,7 @@ use Rattle.std.proofs.Common.{◌≡◌, ℕ, ◌+◌, ◌-◌, ◌≤◌, ◌<�
 use Rattle.std.proofs.Common.{append_assoc, arith}
 use Rattle.std.specs.Prelude.{IfSome, IsSome, is_none}
 use Rattle.std.specs.Io.KnownBytes.{Appends, Consumes, IsAtEnd}
-use Rattle.std.proofs.lemmas.List.{length-append}
-use Rattle.std.proofs.Math.Seq.{take-append-add}
+use Rattle.std.proofs.lemmas.List.{length-append, take_all}
 use Rattle.palm_base.specs.Tree.{Tree}
 use Rattle.palm_script.specs.declared.line.LineFault.{LineFault}
 use Rattle.palm_script.specs.declared.input.TheConstants.{MOST_BYTES}
@@ -16,7 +15,7 @@ use Rattle.palm_script.specs.Laws.{FaultsStand}
 use Rattle.palm_script.specs.Script.{Outcome, script_of}
 use Rattle.palm_words.specs.declared.settings.Mode.TheVariants.{Replay}
 use Rattle.palm_words.specs.declared.settings.Settings.{Settings}
-use Rattle.palm_cli.specs.Ends.{Outside, EndsIn}
+use Rattle.palm_cli.specs.Ends.{Outside, HasBadLine, EndsIn}
 use Rattle.palm_cli.specs.Scripts.{IsGoodScript, IsBadScript, IsLongScript, IsCutScript, run_of, tree_said, text_said}
 use Rattle.palm_cli.specs.Costs.{run_cost}
 use Rattle.palm_cli.specs.Stops.{ended_by}
@@ -65,7 +64,7 @@ good_script settings o bytes after ran none = (
 -- The source failed.
 cut_script : (settings : Settings) (o : Outside) (bytes : List ℕ) (after : Tree) → Ran settings o bytes Failed after → (script_of bytes false).fault ≡ None
     → Rose o.reads_before o.reads_now × ((read : List ℕ) × Consumes o.left o.rest read × IsCutScript settings read o.taken o.now after)
-cut_script settings o bytes after ran none = (ran.read.1, (bytes, ran.read.0, record { good = none; text = ran.text; tree = ran.tree }))
+cut_script settings o bytes after ran none = (ran.read.1, (bytes, ran.read.0, record { size = ran.most; good = none; text = ran.text; tree = ran.tree }))
 
 -- such a source is longer than the bytes that are taken
 longer : (most : ℕ) (bytes more unread : List ℕ) → length bytes ≡ most → length more ≡ 1 → most < length ((bytes ++ more) ++ unread)
@@ -93,42 +92,43 @@ long_script settings o bytes after ran none =
 
 -- ---- a line has a fault
 
--- a front that reaches past a first part
-take_past : (n : ℕ) (xs ys : List ℕ) → length xs ≤ n → take n (xs ++ ys) ≡ xs ++ take (n - length xs) ys
-take_past n xs ys h =
-    let k : n ≡ length xs + (n - length xs) = omega arith in
-    ap (λ (m : ℕ). take m (xs ++ ys)) k ∙ take-append-add xs ys (n - length xs)
-
--- It ended within the bytes that are taken, and all of the script says what they say.
-found : (settings : Settings) (o : Outside) (b : List ℕ) (said : Outcome) (fault : LineFault) (after : Tree) → said.fault ≡ Some fault
-    → script_of b true ≡ said → script_of (take MOST_BYTES b) false ≡ said → Appends o.taken o.now (text_said settings said) → after ≡ tree_said settings said
-    → IsBadScript settings b fault o.taken o.now after
-found settings o b said fault after first all front text tree = record {
+-- It ended within the bytes that were read and are taken, and all of the script says what they say.
+found : (settings : Settings) (o : Outside) (b read bytes : List ℕ) (fault : LineFault) (after : Tree) → (script_of bytes false).fault ≡ Some fault
+    → script_of b true ≡ script_of bytes false → take MOST_BYTES read ≡ bytes → Appends o.taken o.now (text_said settings (script_of bytes false))
+    → after ≡ tree_said settings (script_of bytes false) → IsBadScript settings b read fault o.taken o.now after
+found settings o b read bytes fault after first all front text tree = let said : Outcome = script_of bytes false in record {
   first = ap (λ (o : Outcome). o.fault) all ∙ first;
-  ended = inr (ap (λ (o : Outcome). o.fault) front ∙ first);
+  ended = inl (ap (λ (l : List ℕ). (script_of l false).fault) front ∙ first);
   text = text_of_same settings said (script_of b true) o.taken o.now all text;
   tree = tree_of_same settings said (script_of b true) after all tree;
 }
 
 -- The faulty line that was read is the script's first, whatever was left unread.
 bad_script : FaultsStand → (settings : Settings) (o : Outside) (bytes : List ℕ) (end : InputEnd) (fault : LineFault) (after : Tree)
-    → Ran settings o bytes end after → (script_of bytes (is_whole end)).fault ≡ Some fault → IfSome o.left (λ b. IsBadScript settings b fault o.taken o.now after)
-bad_script stands settings o bytes Whole fault after ran first =
-    where_whole (λ (b : List ℕ). IsBadScript settings b fault o.taken o.now after) o.left o.rest bytes ran.read.0 ran.read.1
-    (record { first = first; ended = inl ran.most; text = ended_so settings (script_of bytes true) o.taken o.now (ap is_none first) ran.text; tree = ran.tree })
+    → Ran settings o bytes end after → (script_of bytes (is_whole end)).fault ≡ Some fault → HasBadLine settings fault o after
+bad_script stands settings o bytes Whole fault after ran first = (
+  bytes,
+  ran.read.0,
+  where_whole (λ (b : List ℕ). IsBadScript settings b bytes fault o.taken o.now after) o.left o.rest bytes ran.read.0 ran.read.1
+      (record { first = first; ended = inr (refl, ran.most); text = ended_so settings (script_of bytes true) o.taken o.now (ap is_none first) ran.text; tree = ran.tree }),
+)
 bad_script stands settings o bytes Failed fault after ran first =
-    let some : IsSome (script_of bytes false).fault = rw first refl in
-    where_read (λ (b : List ℕ). IsBadScript settings b fault o.taken o.now after) o.left o.rest bytes ran.read.0 (λ unread.
-    let rest : List ℕ = take (MOST_BYTES - length bytes) unread in
-    let front = ap (λ (l : List ℕ). script_of l false) (take_past MOST_BYTES bytes unread ran.most) ∙ stands bytes rest false some in
-    found settings o (bytes ++ unread) (script_of bytes false) fault after first (stands bytes unread true some) front ran.text ran.tree)
+    let some : IsSome (script_of bytes false).fault = rw first refl in (
+      bytes,
+      ran.read.0,
+      where_read (λ (b : List ℕ). IsBadScript settings b bytes fault o.taken o.now after) o.left o.rest bytes ran.read.0 (λ unread.
+          found settings o (bytes ++ unread) bytes bytes fault after first (stands bytes unread true some) (take_all MOST_BYTES bytes ran.most) ran.text ran.tree),
+    )
 bad_script stands settings o bytes Long fault after ran first =
     let some : IsSome (script_of bytes false).fault = rw first refl in
     let more : List ℕ = ran.read.0 in
-    where_read (λ (b : List ℕ). IsBadScript settings b fault o.taken o.now after) o.left o.rest (bytes ++ more) ran.read.1 (λ unread.
-    let all = ap (λ (l : List ℕ). script_of l true) (append_assoc bytes more unread) ∙ stands bytes (more ++ unread) true some in
-    let front = ap (λ (l : List ℕ). script_of l false) (front_of MOST_BYTES bytes more unread ran.most ran.read.2) in
-    found settings o ((bytes ++ more) ++ unread) (script_of bytes false) fault after first all front ran.text ran.tree)
+    let front = taken_back MOST_BYTES bytes more ran.most ran.read.2 in (
+      bytes ++ more,
+      ran.read.1,
+      where_read (λ (b : List ℕ). IsBadScript settings b (bytes ++ more) fault o.taken o.now after) o.left o.rest (bytes ++ more) ran.read.1 (λ unread.
+          let all = ap (λ (l : List ℕ). script_of l true) (append_assoc bytes more unread) ∙ stands bytes (more ++ unread) true some in
+          found settings o ((bytes ++ more) ++ unread) (bytes ++ more) bytes fault after first all front ran.text ran.tree),
+    )
 
 -- ---- all ends
 

@@ -78,4 +78,5 @@ pub script_stops : (settings : Settings) (stop : Stop) (o : Outside) (bytes : Li
     → (stop ≡ Write → Rose o.writes_before o.writes_now) → (stop ≡ Memory → KeepsWrites o) → EndsIn Replay settings (status_of stop) o after
 script_stops settings stop o bytes end script ends after read most says finished front rose kept =
     let begun = subst (AppendsFront o.taken o.now) (said_text settings bytes end script ends says finished) front in
-    stop_ends Replay settings stop o after rose kept (stopped settings o.left o.rest o.taken o.now o.reads_before o.reads_now bytes end read most begun)
+    let read_so = stopped settings o.left o.rest o.taken o.now o.reads_before o.reads_now bytes end read most begun in
+    stop_ends Replay settings stop o after rose kept read_so read_so

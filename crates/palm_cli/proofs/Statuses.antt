@@ -11,8 +11,7 @@ use Rattle.palm_words.specs.declared.settings.Mode.{Mode}
 use Rattle.palm_words.specs.declared.settings.Mode.TheVariants.{Replay, Deck, Gen}
 use Rattle.palm_words.specs.declared.settings.Settings.{Settings}
 use Rattle.palm_cli.specs.Decks.{IsBadDeck}
-use Rattle.palm_cli.specs.Ends.{Outside, HasStopped, KeepsReads, KeepsWrites, IsReadWhole, IsDone, TookFew, IsCutShort, IsLong, EndsIn, EndsAs, EndsUnfailed, HasEnded}
-use Rattle.palm_cli.specs.Scripts.{IsBadScript}
+use Rattle.palm_cli.specs.Ends.{Outside, HasStopped, HasFailed, HasBadLine, KeepsReads, KeepsWrites, IsReadWhole, IsDone, TookFew, IsCutShort, IsLong, EndsIn, EndsAs, EndsUnfailed, HasEnded}
 use Rattle.palm_cli.specs.Statuses.{code_of, names_fault}
 use Rattle.palm_cli.specs.Stops.{status_of}
 use Rattle.palm_cli.specs.Streams.{HasReadPast}
@@ -24,10 +23,10 @@ use Rattle.palm_cli.proofs.Stopped.{stopped_at_once}
 
 -- The run stopped for this.
 pub stop_ends : (mode : Mode) (settings : Settings) (stop : Stop) (o : Outside) (after : Tree)
-    → (stop ≡ stops.Write → Rose o.writes_before o.writes_now) → (stop ≡ stops.Memory → KeepsWrites o) → HasStopped mode settings o
+    → (stop ≡ stops.Write → Rose o.writes_before o.writes_now) → (stop ≡ stops.Memory → KeepsWrites o) → HasStopped mode settings o → HasFailed mode settings o
     → EndsIn mode settings (status_of stop) o after
-stop_ends mode settings stops.Memory o after rose kept stopped = (kept refl, stopped)
-stop_ends mode settings stops.Write o after rose kept stopped = (rose refl, stopped)
+stop_ends mode settings stops.Memory o after rose kept stopped failed = (kept refl, stopped)
+stop_ends mode settings stops.Write o after rose kept stopped failed = (rose refl, failed)
 
 -- Memory was refused while the words were read, before anything else was done.
 pub memory_ends : (found : Option Settings) (left taken : Option (List ℕ)) (reads writes steps : ℕ) (after : Tree)
@@ -132,11 +131,11 @@ done_ended found status o after ended code =
 
 -- 3: the script's first faulty line.
 pub line_ended : (found : Option Settings) (status : Status) (o : Outside) (after : Tree) → HasEnded found status o after → code_of status ≡ 3
-    → (fault : LineFault) × (status ≡ BadLine fault) × IfSome found (λ settings. (settings.mode ≡ Replay) × IfSome o.left (λ b. IsBadScript settings b fault o.taken o.now after))
+    → (fault : LineFault) × (status ≡ BadLine fault) × IfSome found (λ settings. (settings.mode ≡ Replay) × HasBadLine settings fault o after)
 line_ended found status o after ended code =
     let bad : (fault : LineFault) × (status ≡ BadLine fault) = is_of_code 3 status code in
     let end = ended_as (BadLine bad.0) found status o after (λ e. omega (arith, e)) (λ e. omega (arith, e)) bad.1 ended in
-    let Bad : Settings → Type 0 = λ settings. (settings.mode ≡ Replay) × IfSome o.left (λ b. IsBadScript settings b bad.0 o.taken o.now after) in
+    let Bad : Settings → Type 0 = λ settings. (settings.mode ≡ Replay) × HasBadLine settings bad.0 o after in
     let said : Bad end.settings = (end.end.0, end.end.1) in
     (bad.0, bad.1, where_some Bad found end.settings end.form said)
 
@@ -148,9 +147,9 @@ read_ended found status o after ended code =
     let end = ended_as ReadFault found status o after (λ e. omega (arith, e)) (λ e. omega (arith, e)) (is_of_code 4 status code) ended in
     (end.end.0, where_some _ found end.settings end.form end.end.1)
 
--- 5: the sink failed.
+-- 5: the sink failed, and what was taken begins what all that was read would give.
 pub write_ended : (found : Option Settings) (status : Status) (o : Outside) (after : Tree) → HasEnded found status o after → code_of status ≡ 5
-    → Rose o.writes_before o.writes_now × IfSome found (λ settings. HasStopped settings.mode settings o)
+    → Rose o.writes_before o.writes_now × IfSome found (λ settings. HasFailed settings.mode settings o)
 write_ended found status o after ended code =
     let end = ended_as WriteFault found status o after (λ e. omega (arith, e)) (λ e. omega (arith, e)) (is_of_code 5 status code) ended in
     (end.end.0, where_some _ found end.settings end.form end.end.1)
@@ -173,12 +172,11 @@ row_ended found status o after ended code =
     let said : Bad end.settings = (end.end.0, end.end.1, end.end.2) in
     (bad.0, bad.1, bad.2, where_some Bad found end.settings end.form said)
 
--- 5 or 6: the run was stopped, by a fault of the sink or for want of memory.
+-- 6: the run was stopped for want of memory.
 pub stop_ended : (found : Option Settings) (status : Status) (o : Outside) (after : Tree)
-    → HasEnded found status o after → (code_of status ≡ 5) ⊎ (code_of status ≡ 6) → IfSome found (λ settings. HasStopped settings.mode settings o)
-stop_ended found status o after ended (inl code) = (write_ended found status o after ended code).1
-stop_ended None status o after ended (inr code) = tt
-stop_ended (Some settings) status o after ended (inr code) = (subst (λ (s : Status). EndsAs settings s o after) (is_of_code 6 status code) ended).1
+    → HasEnded found status o after → code_of status ≡ 6 → IfSome found (λ settings. HasStopped settings.mode settings o)
+stop_ended None status o after ended code = tt
+stop_ended (Some settings) status o after ended code = (subst (λ (s : Status). EndsAs settings s o after) (is_of_code 6 status code) ended).1
 
 -- The sink counted a fault at WriteFault alone.
 written_as : (settings : Settings) (status : Status) (o : Outside) (after : Tree) → EndsAs settings status o after → (code_of status ≡ 5 → ⊥) → KeepsWrites o

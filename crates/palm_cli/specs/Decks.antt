@@ -30,10 +30,15 @@ pub record IsBadDeck (b : List ℕ) (row : ℕ) (why : DeckWhy) : Type 0 where
   pub size : length b ≤ MOST_BYTES
   pub first : deck_of b ≡ Err (Bad row why)
 
--- The run stopped before its end, after these bytes were read and where the source now has `rest`. Nothing was taken, or
--- they are all of a source that isn't too long and a good deck, and what was taken begins the deck that it leaves. So where
--- "op,prefix,rate" and "set,44,7" were read, a sink that was empty may have "op,pre".
+-- Where the source now has `rest`, the bytes that were read are all of a source that isn't too long and a good deck, and what
+-- was taken begins the deck that it leaves. So where "op,prefix,rate" and "set,44,7" were read, a sink that was empty may have
+-- "op,pre".
+abbrev pub IsBegunDeck : (read : List ℕ) (rest old new : Option (List ℕ)) → Type 0
+IsBegunDeck read rest old new =
+    IsAtEnd rest × (length read ≤ MOST_BYTES) × ((edits : List Entry) × (deck_of read ≡ Ok edits) × AppendsFront old new (deck_left edits))
+
+-- The run stopped before its end, after these bytes were read and where the source now has `rest`. Nothing was taken, or what
+-- was taken begins the deck that a good one leaves. So where "op,prefix,rate" and "set,4x,7" were read, it is so of a sink that
+-- took nothing.
 abbrev pub IsStoppedDeck : (read : List ℕ) (rest old new : Option (List ℕ)) → Type 0
-IsStoppedDeck read rest old new =
-    Appends old new []
-    ⊎ (IsAtEnd rest × (length read ≤ MOST_BYTES) × ((edits : List Entry) × (deck_of read ≡ Ok edits) × AppendsFront old new (deck_left edits)))
+IsStoppedDeck read rest old new = Appends old new [] ⊎ IsBegunDeck read rest old new

@@ -6,11 +6,12 @@ use Rattle.palm_deck.specs.Deck.{deck_of}
 use Rattle.palm_script.specs.Causes.{Rose}
 use Rattle.palm_script.specs.Script.{script_of}
 use Rattle.palm_script.specs.declared.input.TheConstants.{MOST_BYTES}
+use Rattle.palm_script.specs.declared.line.LineFault.{LineFault}
 use Rattle.palm_words.specs.declared.settings.Mode.{Mode}
 use Rattle.palm_words.specs.declared.settings.Mode.TheVariants.{Replay, Deck, Gen}
 use Rattle.palm_words.specs.declared.settings.Settings.{Settings}
 use Rattle.palm_cli.specs.Costs.{run_cost}
-use Rattle.palm_cli.specs.Decks.{IsGoodDeck, IsBadDeck, IsStoppedDeck}
+use Rattle.palm_cli.specs.Decks.{IsGoodDeck, IsBadDeck, IsBegunDeck, IsStoppedDeck}
 use Rattle.palm_cli.specs.Generated.{IsSummed, history_said, summary_said}
 use Rattle.palm_cli.specs.Scripts.{run_of, IsGoodScript, IsBadScript, IsLongScript, IsCutScript, IsStoppedScript}
 use Rattle.palm_cli.specs.Streams.{AppendsFront, HasReadPast}
@@ -39,11 +40,11 @@ TookFew Replay settings left before now = IfSome left (λ b. now ≤ before + ru
 TookFew Deck settings left before now = IfSome left (λ b. IfOk (deck_of b) (λ edits. now ≤ before + cost_left settings.batch edits))
 TookFew Gen settings left before now = now ≤ before + cost_left settings.batch (history_said settings)
 
--- The source failed after these bytes were read. In `deck` nothing is written then. So it isn't so in `gen`, which reads
--- nothing.
+-- The source failed after these bytes were read, which aren't too many. In `deck` nothing is written then. So it isn't so of
+-- 67,108,865 bytes, nor in `gen`, which reads nothing.
 abbrev pub IsCutShort : Mode → Settings → (read : List ℕ) (old new : Option (List ℕ)) → Tree → Type 0
 IsCutShort Replay settings read old new after = IsCutScript settings read old new after
-IsCutShort Deck settings read old new after = new ≡ old
+IsCutShort Deck settings read old new after = (length read ≤ MOST_BYTES) × (new ≡ old)
 IsCutShort Gen settings read old new after = ⊥
 
 -- The source has more bytes than are taken. In `deck` nothing is written then. So it is so of a deck of 67,108,865 bytes, and
@@ -59,6 +60,13 @@ abbrev pub IsStopped : Mode → Settings → (read : List ℕ) (rest old new : O
 IsStopped Replay settings read rest old new = IsStoppedScript settings read rest old new
 IsStopped Deck settings read rest old new = IsStoppedDeck read rest old new
 IsStopped Gen settings read rest old new = AppendsFront old new (summary_said settings)
+
+-- The sink failed, after these bytes were read: what was taken begins what all would give. A deck is good then. So in `deck` it
+-- isn't so of "op,prefix,rate" and "set,4x,7".
+abbrev pub IsUnwritten : Mode → Settings → (read : List ℕ) (rest old new : Option (List ℕ)) → Type 0
+IsUnwritten Replay settings read rest old new = IsStoppedScript settings read rest old new
+IsUnwritten Deck settings read rest old new = IsBegunDeck read rest old new
+IsUnwritten Gen settings read rest old new = AppendsFront old new (summary_said settings)
 
 -- A mode's statuses where nothing failed. `gen` has no bad input. So 8 is one in `deck` alone.
 abbrev pub EndsUnfailed : Mode → ℕ → Type 0
@@ -87,6 +95,15 @@ pub record Outside : Type 0 where
 abbrev pub HasStopped : Mode → Settings → Outside → Type 0
 HasStopped mode settings o = (read : List ℕ) × Consumes o.left o.rest read × IsStopped mode settings read o.rest o.taken o.now
 
+-- The sink failed after some bytes were read. So in `deck` these are a good deck, and its source has none left.
+abbrev pub HasFailed : Mode → Settings → Outside → Type 0
+HasFailed mode settings o = (read : List ℕ) × Consumes o.left o.rest read × IsUnwritten mode settings read o.rest o.taken o.now
+
+-- A line of the script that was read has this fault. So where a source had 5 bytes and has the last 2, it had ended in the
+-- first 3.
+abbrev pub HasBadLine : Settings → LineFault → Outside → Tree → Type 0
+HasBadLine settings fault o after = (read : List ℕ) × Consumes o.left o.rest read × IfSome o.left (λ b. IsBadScript settings b read fault o.taken o.now after)
+
 -- The source counted no fault. So with the counts 3 and 3 it is so, and with 3 and 4 it isn't.
 abbrev pub KeepsReads : Outside → Type 0
 KeepsReads o = o.reads_now ≡ o.reads_before
@@ -108,10 +125,10 @@ EndsIn mode settings Done o after =
     × TookFew mode settings o.left o.steps_before o.steps_now
 EndsIn mode settings Usage o after = ⊥
 EndsIn mode settings (BadLine fault) o after =
-    (mode ≡ Replay) × IfSome o.left (λ b. IsBadScript settings b fault o.taken o.now after) × HasStopped mode settings o × KeepsWrites o
+    (mode ≡ Replay) × HasBadLine settings fault o after × HasStopped mode settings o × KeepsWrites o
 EndsIn mode settings ReadFault o after =
     Rose o.reads_before o.reads_now × ((read : List ℕ) × Consumes o.left o.rest read × IsCutShort mode settings read o.taken o.now after) × KeepsWrites o
-EndsIn mode settings WriteFault o after = Rose o.writes_before o.writes_now × HasStopped mode settings o
+EndsIn mode settings WriteFault o after = Rose o.writes_before o.writes_now × HasFailed mode settings o
 EndsIn mode settings NoMemory o after = KeepsWrites o × HasStopped mode settings o
 EndsIn mode settings TooLong o after =
     HasReadPast o.left o.rest × IsLong mode settings o.left o.taken o.now after × KeepsReads o × KeepsWrites o

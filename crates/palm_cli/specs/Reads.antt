@@ -10,7 +10,7 @@ use Rattle.palm_script.specs.declared.input.InputEnd.{InputEnd}
 use Rattle.palm_script.specs.declared.input.TheConstants.{MOST_BYTES}
 use Rattle.palm_cli.specs.Decks.{IsBadDeck}
 use Rattle.palm_cli.specs.Stops.{ended_by}
-use Rattle.palm_cli.specs.Streams.{HasReadPast}
+use Rattle.palm_cli.specs.Streams.{HasReadPast, HasReadWithin}
 use Rattle.palm_cli.specs.declared.replay.ReadScript.{ReadScript}
 use Rattle.palm_cli.specs.declared.status.Status.{Status}
 use Rattle.palm_cli.specs.declared.status.Status.TheVariants.{ReadFault, NoMemory, TooLong, BadRow}
@@ -41,10 +41,10 @@ abbrev pub IsReadFrom : (left rest : Option (List ℕ)) → Type 0
 IsReadFrom left rest = (read : List ℕ) × Consumes left rest read
 
 -- No good deck was read, and this is why. One that has a faulty record was read to its end, without a fault of the source.
--- So at ReadFault the source counts a fault more, and at Done it isn't so.
+-- So at ReadFault the source counts a fault more, and no byte too many was read; and at Done it isn't so.
 abbrev pub IsNoDeck : (left rest : Option (List ℕ)) (before now : ℕ) → Status → Type 0
 IsNoDeck left rest before now NoMemory = IsReadFrom left rest
-IsNoDeck left rest before now ReadFault = Rose before now × IsReadFrom left rest
+IsNoDeck left rest before now ReadFault = Rose before now × HasReadWithin left rest
 IsNoDeck left rest before now TooLong = HasReadPast left rest × (now ≡ before)
 IsNoDeck left rest before now (BadRow row why) = IfSome left (λ b. IsBadDeck b row why) × IsAtEnd rest × IsReadFrom left rest × (now ≡ before)
 IsNoDeck left rest before now _ = ⊥

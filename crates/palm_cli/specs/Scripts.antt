@@ -44,12 +44,13 @@ pub record IsGoodScript (settings : Settings) (b : List ℕ) (old new : Option (
   pub text : Appends old new (final_said settings (script_of b true))
   pub tree : after ≡ tree_said settings (script_of b true)
 
--- This is the first faulty line of the script b. It ended within the bytes that are taken, or where the script is no
--- longer than these, at its end. The transcript of the lines before it was taken, and the tree is the one after them. So of the
--- lines "0 get 44" and "x" it is the second, and "0 0 absent" and "= 1" were taken.
-pub record IsBadScript (settings : Settings) (b : List ℕ) (fault : LineFault) (old new : Option (List ℕ)) (after : Tree) : Type 0 where
+-- This is the first faulty line of the script b, of which these bytes were read. It had ended in them, as far as they are
+-- taken, or at the end of the script, where all of it was read and it isn't too long. The transcript of the lines before it was
+-- taken, and the tree is the one after them. So of the lines "0 get 44" and "x" it is the second, and "0 0 absent" and "= 1"
+-- were taken; and it isn't so where "0 get 44" alone was read.
+pub record IsBadScript (settings : Settings) (b read : List ℕ) (fault : LineFault) (old new : Option (List ℕ)) (after : Tree) : Type 0 where
   pub first : (script_of b true).fault ≡ Some fault
-  pub ended : (length b ≤ MOST_BYTES) ⊎ ((script_of (take MOST_BYTES b) false).fault ≡ Some fault)
+  pub ended : ((script_of (take MOST_BYTES read) false).fault ≡ Some fault) ⊎ ((read ≡ b) × (length b ≤ MOST_BYTES))
   pub text : Appends old new (text_said settings (script_of b true))
   pub tree : after ≡ tree_said settings (script_of b true)
 
@@ -62,10 +63,11 @@ pub record IsLongScript (settings : Settings) (b : List ℕ) (old new : Option (
   pub text : Appends old new (text_said settings (script_of (take MOST_BYTES b) false))
   pub tree : after ≡ tree_said settings (script_of (take MOST_BYTES b) false)
 
--- The source failed after these bytes were read, in which no faulty line ended. The transcript of the lines that ended in
--- them was taken, and the tree is the one after them. So where a line "0 get 44" and then "0 ge" were read, "0 0 absent" and "=
--- 1" were taken.
+-- The source failed after these bytes were read, which aren't too many, and in which no faulty line ended. The transcript of the
+-- lines that ended in them was taken, and the tree is the one after them. So where a line "0 get 44" and then "0 ge" were read,
+-- "0 0 absent" and "= 1" were taken.
 pub record IsCutScript (settings : Settings) (read : List ℕ) (old new : Option (List ℕ)) (after : Tree) : Type 0 where
+  pub size : length read ≤ MOST_BYTES
   pub good : (script_of read false).fault ≡ None
   pub text : Appends old new (text_said settings (script_of read false))
   pub tree : after ≡ tree_said settings (script_of read false)

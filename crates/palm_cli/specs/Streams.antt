@@ -20,6 +20,10 @@ pub record Told (old new : Option (List ℕ)) (before now : ℕ) (line : List �
 abbrev pub text_to : DumpWhen → Bool → List Section → List ℕ
 text_to dump ends run = if ends then final_of dump run else text_of dump run
 
+-- No more bytes were read than are taken. So where 3 are taken, a source of 5 has lost 3 at most.
+abbrev pub HasReadWithin : (left rest : Option (List ℕ)) → Type 0
+HasReadWithin left rest = (read : List ℕ) × Consumes left rest read × (length read ≤ MOST_BYTES)
+
 -- One byte more was read than are taken. So where 3 are taken, a source of 5 has lost 4.
 abbrev pub HasReadPast : (left rest : Option (List ℕ)) → Type 0
 HasReadPast left rest = (read : List ℕ) × Consumes left rest read × (length read ≡ MOST_BYTES + 1)

@@ -61,7 +61,11 @@ fn a_faulty_deck_is_told_and_writes_nothing(rt: HostRuntime) -> Result<(), Fail>
     for (deck, told) in [
         ("", "palm: row 1 fault 1\n"),
         ("op,prefix\n", "palm: row 1 fault 1\n"),
+        ("\n\n", "palm: row 1 fault 1\n"),
         ("op,prefix,rate\nset,4\n", "palm: row 2 fault 2\n"),
+        ("op,prefix,rate\nset,4,1\nset\n", "palm: row 3 fault 2\n"),
+        ("op,prefix,rate\nset,4,1,2\n", "palm: row 2 fault 2\n"),
+        ("op,prefix,rate\n\"\"\n", "palm: row 2 fault 2\n"),
         ("op,prefix,rate\nput,4,1\n", "palm: row 2 fault 3\n"),
         ("op,prefix,rate\nset,4x,7\n", "palm: row 2 fault 4\n"),
         ("op,prefix,rate\ndel,4,1\n", "palm: row 2 fault 5\n"),

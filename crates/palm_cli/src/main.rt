@@ -6,12 +6,16 @@ mod batch;
 mod deck;
 #[cfg(test)]
 mod deck_tests;
+#[cfg(test)]
+mod gate_tests;
 mod generate;
 #[cfg(test)]
 mod generate_tests;
 mod palm;
 mod replay;
 mod run;
+#[cfg(test)]
+mod shape_tests;
 mod status;
 mod stop;
 #[cfg(test)]

@@ -10,7 +10,7 @@ ghost use Rattle.palm_script.specs.declared.line.LineFault.{LineFault};
 ghost use Rattle.palm_words.specs.Settings.{AreWithin, settings_of};
 ghost use Rattle.palm_words.specs.declared.settings.Mode.{Mode};
 ghost use Rattle.palm_cli.specs.Decks.{IsBadDeck};
-ghost use Rattle.palm_cli.specs.Ends.{IsDone, IsReadWhole, TookFew, IsCutShort, IsLong, IsStopped, EndsUnfailed, EndsAs, HasEnded};
+ghost use Rattle.palm_cli.specs.Ends.{IsDone, IsReadWhole, TookFew, IsCutShort, IsLong, IsUnwritten, IsStopped, EndsUnfailed, EndsAs, HasEnded};
 ghost use Rattle.palm_cli.specs.Scripts.{IsBadScript};
 ghost use Rattle.palm_cli.specs.Statuses.{code_of, status_text, line_told, row_told};
 ghost use Rattle.palm_cli.specs.Streams.{HasReadPast, Told};
@@ -122,7 +122,7 @@ fn run_and_tell<R: Threads + Sync, S: Source, O: Sink, E: Sink, G: Gate + Sync, 
 /// | 2 | the words aren't of the form; nothing was read or written |
 /// | 3 | a line of the script has a fault; the transcript of the lines before it was taken |
 /// | 4 | the source failed; the transcript of the lines that had ended was taken, and in `deck` nothing |
-/// | 5 | `out` failed; what was taken begins what the mode writes |
+/// | 5 | `out` failed; what was taken begins what the mode writes, and in `deck` the deck is good |
 /// | 6 | memory was refused; what was taken begins what the mode writes |
 /// | 7 | the source has more than 64 MiB; the transcript of the lines that ended within them was taken, and in `deck` nothing |
 /// | 8 | a record of the deck has a fault; nothing was written |
@@ -157,20 +157,23 @@ pub fn palm<R: Threads + Sync, S: Source, O: Sink, E: Sink, G: Gate + Sync, L: L
     ensures refused { settings_of (map string_bytes words.now.items) ≡ None → (result ≡ 2) ⊎ (result ≡ 6) }
     ensures nothing { settings_of (map string_bytes words.now.items) ≡ None → (src.new ≡ src.old) × (out.new ≡ out.old) × (engine.new ≡ engine.old) × (steps.new ≡ steps.old) }
 
-    // 3: this is the script's first faulty line, what was taken is the transcript of the lines before it, and the tree is theirs.
+    // 3: this is the script's first faulty line, and it had ended in what was read. What was taken is the transcript of the lines
+    // before it, and the tree is theirs.
     ensures bad_line { result ≡ 3 → (fault : LineFault)
-        × IfSome (settings_of (map string_bytes words.now.items)) (λ settings. (settings.mode ≡ Mode.Replay) × IfSome (S.left src.old) (λ b. IsBadScript settings b fault (O.taken out.old) (O.taken out.new) (tree_in engine.new.tree)))
+        × IfSome (settings_of (map string_bytes words.now.items)) (λ settings. (settings.mode ≡ Mode.Replay) × ((read : List ℕ) × Consumes (S.left src.old) (S.left src.new) read × IfSome (S.left src.old) (λ b. IsBadScript settings b read fault (O.taken out.old) (O.taken out.new) (tree_in engine.new.tree))))
         × Told (E.taken err.old) (E.taken err.new) (E.faults err.old) (E.faults err.new) (line_told fault) }
 
-    // 4: the source failed. What was taken is the transcript of the lines before, and the tree is theirs.
+    // 4: the source failed, before the byte too many was read. What was taken is the transcript of the lines before, and the tree
+    // is theirs.
     ensures read { result ≡ 4 → Rose (S.faults src.old) (S.faults src.new) }
     ensures cut_short { result ≡ 4 → IfSome (settings_of (map string_bytes words.now.items)) (λ settings. (read : List ℕ) × Consumes (S.left src.old) (S.left src.new) read × IsCutShort settings.mode settings read (O.taken out.old) (O.taken out.new) (tree_in engine.new.tree)) }
 
-    // 5: the sink failed.
+    // 5: the sink failed. What was taken begins what all that was read would give, which in `deck` is a good deck.
     ensures write { result ≡ 5 → Rose (O.faults out.old) (O.faults out.new) }
+    ensures unwritten { result ≡ 5 → IfSome (settings_of (map string_bytes words.now.items)) (λ settings. (read : List ℕ) × Consumes (S.left src.old) (S.left src.new) read × IsUnwritten settings.mode settings read (S.left src.new) (O.taken out.old) (O.taken out.new)) }
 
-    // 5 and 6: what was taken begins what all that was read would give.
-    ensures stopped { (result ≡ 5) ⊎ (result ≡ 6) → IfSome (settings_of (map string_bytes words.now.items)) (λ settings. (read : List ℕ) × Consumes (S.left src.old) (S.left src.new) read × IsStopped settings.mode settings read (S.left src.new) (O.taken out.old) (O.taken out.new)) }
+    // 6: what was taken begins what all that was read would give.
+    ensures stopped { result ≡ 6 → IfSome (settings_of (map string_bytes words.now.items)) (λ settings. (read : List ℕ) × Consumes (S.left src.old) (S.left src.new) read × IsStopped settings.mode settings read (S.left src.new) (O.taken out.old) (O.taken out.new)) }
 
     // 7: the source has a byte too many, and it was read, one more than is taken of it. What was taken is the transcript of the
     // lines before, and the tree is theirs.

@@ -19,12 +19,17 @@ pub fn words(alloc: Global, texts: &[&str]) -> Result<Vec<String>, Fail> {
     Ok(all)
 }
 
+fn numbers(alloc: Global, number: Option<u64>) -> Result<Vec<u64>, Fail> {
+    let mut numbers = Vec::new(alloc);
+    if let Some(number) = number {
+        numbers.push(number)?;
+    }
+    Ok(numbers)
+}
+
 // A sink with room to spare, whose writes take at most `most` bytes, and of which the write `fail` fails.
 pub fn sink(alloc: Global, most: usize, fail: Option<u64>) -> Result<MemSink, Fail> {
-    let mut fails = Vec::new(alloc);
-    if let Some(number) = fail {
-        fails.push(number)?;
-    }
+    let fails = numbers(alloc, fail)?;
     Ok(MemSink::new(alloc, 200_000, most.max(1), fails)?)
 }
 
@@ -90,6 +95,30 @@ fn scripts_give_their_transcripts(rt: HostRuntime) -> Result<(), Fail> {
             "palm: line 5 fault 4\n",
         ),
         ("64 get 4\n", 3, "", "palm: line 1 fault 1\n"),
+        (
+            "0 set 44 1000\n0 rate 442079460000\n",
+            0,
+            "0 0 new\n1 0 44 1000\n= 2\nend 2 1\n",
+            "",
+        ),
+        (
+            "0 set 1 1\n0 set 10 2\n0 set 100 3\n0 set 1000 4\n0 rate 1001\n0 set 10 7\n0 list 5 4 10\n",
+            0,
+            "0 0 new\n1 0 new\n2 0 new\n3 0 new\n4 0 100 3\n5 0 was 2\n6 0 rows 0\n= 7\nend 7 4\n",
+            "",
+        ),
+        (
+            "0 set 123456789012345 7\n0 rate 123456789012345\n0 set 1234567890123456 7\n",
+            3,
+            "0 0 new\n1 0 123456789012345 7\n= 2\n",
+            "palm: line 3 fault 4\n",
+        ),
+        (
+            "0 set 123456789012345 7\n0 rate 123456789012345\n0 rate 1234567890123456\n",
+            3,
+            "0 0 new\n1 0 123456789012345 7\n= 2\n",
+            "palm: line 3 fault 5\n",
+        ),
     ] {
         ends_as(&rt, rt.alloc(), &["replay"], script, status, out, err)?;
     }
@@ -159,91 +188,29 @@ fn cuts_and_dumps(rt: HostRuntime) -> Result<(), Fail> {
     Ok(())
 }
 
-// Appends a prefix and its rate, which are this number, after a blank, for each number of a range.
-fn append_pairs(text: &mut String, from: u32, to: u32) -> Result<(), Fail> {
-    let alloc = *text.allocator();
-    for p in from..=to {
-        text.push_str(&format!(in alloc; " {p} {p}")?)?;
-    }
-    Ok(())
-}
-
-// The line of the leaf of such rows, of which there are so many.
-fn leaf(alloc: Global, count: u32, from: u32, to: u32) -> Result<String, Fail> {
-    let mut line = format!(in alloc; "leaf {count}")?;
-    append_pairs(&mut line, from, to)?;
-    line.push_str("\n")?;
-    Ok(line)
-}
-
-// The Sets of the rows from 10 to 43.
-fn set_lines(alloc: Global) -> Result<String, Fail> {
-    let mut script = String::new(alloc);
-    for row in 10..44u32 {
-        script.push_str(&format!(in alloc; "0 set {row} {row}\n")?)?;
-    }
-    Ok(script)
-}
-
-// The replies to them, and this behind each.
-fn new_lines(alloc: Global, behind: &str) -> Result<String, Fail> {
-    let mut lines = String::new(alloc);
-    for n in 0..34u32 {
-        lines.push_str(&format!(in alloc; "{n} 0 new\n{behind}")?)?;
-    }
-    Ok(lines)
-}
-
-// The lines of the leaves of so many rows, from one to another.
-fn leaf_lines(alloc: Global, leaves: &[(u32, u32, u32)]) -> Result<String, Fail> {
-    let mut lines = String::new(alloc);
-    for (count, from, to) in leaves {
-        lines.push_str(&leaf(alloc, *count, *from, *to)?)?;
-    }
-    Ok(lines)
-}
-
-// The shape of 34 rows depends on the batches, and not on the workers.
-#[test]
-fn batches_shape_the_tree_and_workers_do_not(rt: HostRuntime) -> Result<(), Fail> {
-    let alloc = rt.alloc();
-    let sets = set_lines(alloc)?;
-    let script = format!(in alloc; "{sets}dump\n")?;
-    let new = new_lines(alloc, "")?;
-    let leaves = leaf_lines(alloc, &[(12, 10, 21), (11, 22, 32), (11, 33, 43)])?;
-    let together = format!(in alloc; "{new}= 34\ntree 2 34\ninner 3 22 33\n{leaves}end 34 34\n")?;
-    let new = new_lines(alloc, "= 1\n")?;
-    let leaves = leaf_lines(alloc, &[(9, 10, 18), (9, 19, 27), (16, 28, 43)])?;
-    let apart = format!(in alloc; "{new}tree 2 34\ninner 3 19 28\n{leaves}end 34 34\n")?;
-    for workers in ["--workers=1", "--workers=3", "--workers=64"] {
-        ends_as(&rt, alloc, &[workers, "replay"], &script, 0, &together, "")?;
-        let one_by_one = ["--batch", "1", workers, "replay"];
-        ends_as(&rt, alloc, &one_by_one, &script, 0, &apart, "")?;
-    }
-    Ok(())
-}
-
 // A write takes all that it is offered, so that each text is one write: that of a batch, a dump that a line asks for, another
-// batch, and what stands at the end.
+// batch, and what stands at the end. A fifth write, which would fail, isn't made.
 #[test]
 fn texts_are_offered_whole(rt: HostRuntime) -> Result<(), Fail> {
     let alloc = rt.alloc();
     let all = words(alloc, &["replay", "--dump", "end"])?;
     let shape = "tree 1 1\nleaf 1 4 1\n";
     let texts = [
-        "0 0 new\n= 1\n",
-        shape,
-        "1 0 value 1\n= 1\n",
-        "tree 1 1\nleaf 1 4 1\nend 2 1\n",
+        ("0 0 new\n= 1\n", 5, "palm: write fault\n"),
+        (shape, 5, "palm: write fault\n"),
+        ("1 0 value 1\n= 1\n", 5, "palm: write fault\n"),
+        ("tree 1 1\nleaf 1 4 1\nend 2 1\n", 5, "palm: write fault\n"),
+        ("", 0, ""),
     ];
     let mut taken = String::new(alloc);
-    for (number, text) in texts.iter().enumerate() {
+    for (number, (text, status, told)) in texts.iter().enumerate() {
         let mut src = SureSource::new(Vec::from_slice(alloc, b"0 set 4 1\ndump\n0 get 4\n")?);
         let mut out = sink(alloc, 1_000, Some(number as u64))?;
         let mut err = sink(alloc, 100, None)?;
-        assert_eq!(rt; run(&rt, alloc, &all, &mut src, &mut out, &mut err), 5);
+        let got = run(&rt, alloc, &all, &mut src, &mut out, &mut err);
+        assert_eq!(rt; got, *status, "write {number}");
         assert_eq!(rt; out.taken(), taken.as_bytes(), "write {number}");
-        assert_eq!(rt; err.taken(), b"palm: write fault\n".as_slice());
+        assert_eq!(rt; err.taken(), told.as_bytes(), "write {number}");
         taken.push_str(text)?;
     }
     Ok(())
@@ -347,6 +314,95 @@ fn each_write_fails_in_turn(rt: HostRuntime) -> Result<(), Fail> {
         );
         assert_eq!(rt; err.taken(), told.as_bytes(), "write {number}");
     }
+    Ok(())
+}
+
+// Of reads of 12 bytes the third fails, in the third line. Of writes of 4 bytes the second fails, in the first.
+#[test]
+fn a_fault_leaves_what_came_before_it(rt: HostRuntime) -> Result<(), Fail> {
+    let alloc = rt.alloc();
+    let all = words(alloc, &["replay"])?;
+    for (script, read, write, status, taken, told) in [
+        (
+            "0 set 4 1\n0 set 5 2\n0 set 6 3\n",
+            Some(2),
+            None,
+            4,
+            "0 0 new\n1 0 new\n= 2\n",
+            "palm: read fault\n",
+        ),
+        (
+            "0 set 44 1000\n0 rate 442079460000\n",
+            None,
+            Some(1),
+            5,
+            "0 0 ",
+            "palm: write fault\n",
+        ),
+    ] {
+        let bytes = Vec::from_slice(alloc, script.as_bytes())?;
+        let mut src = MemSource::new(bytes, 12, numbers(alloc, read)?);
+        let mut out = sink(alloc, 4, write)?;
+        let mut err = sink(alloc, 100, None)?;
+        let got = run(&rt, alloc, &all, &mut src, &mut out, &mut err);
+        assert_eq!(rt; got, status, "{script}");
+        assert_eq!(rt; out.taken(), taken.as_bytes(), "{script}");
+        assert_eq!(rt; err.taken(), told.as_bytes(), "{script}");
+    }
+    Ok(())
+}
+
+// All options, each as two words. What one asks for is given in the modes that have a use for it.
+#[test]
+fn each_option_may_be_two_words(rt: HostRuntime) -> Result<(), Fail> {
+    let replies =
+        "0 0 new\n= 1\ntree 1 1\nleaf 1 4 1\n1 0 value 1\n= 1\ntree 1 1\nleaf 1 4 1\nend 2 1\n";
+    for (mode, input, out) in [
+        ("replay", "0 set 4 1\n0 get 4\n", replies),
+        (
+            "deck",
+            "op,prefix,rate\nset,4,1\n",
+            "op,prefix,rate\nset,4,1\n",
+        ),
+        ("gen", "", "calls 1\nrows 0\nlevels 1\nhits 0\nsum 0\n"),
+    ] {
+        let texts = [
+            mode,
+            "--batch",
+            "1",
+            "--workers",
+            "2",
+            "--window",
+            "64",
+            "--dump",
+            "all",
+            "--seed",
+            "0",
+            "--calls",
+            "1",
+        ];
+        ends_as(&rt, rt.alloc(), &texts, input, 0, out, "")?;
+    }
+    Ok(())
+}
+
+#[test]
+fn the_largest_batch(rt: HostRuntime) -> Result<(), Fail> {
+    let alloc = rt.alloc();
+    let mut script = String::new(alloc);
+    let mut transcript = String::new(alloc);
+    for n in 0..65_536u32 {
+        script.push_str("0 get 4\n")?;
+        transcript.push_str(&format!(in alloc; "{n} 0 absent\n")?)?;
+    }
+    transcript.push_str("= 65536\nend 65536 0\n")?;
+    let all = words(alloc, &["replay", "--batch", "65536"])?;
+    let mut src = SureSource::new(Vec::from_slice(alloc, script.as_bytes())?);
+    let mut out = MemSink::new(alloc, 2_000_000, 2_000_000, Vec::new(alloc))?;
+    let mut err = sink(alloc, 100, None)?;
+    let got = run(&rt, alloc, &all, &mut src, &mut out, &mut err);
+    assert_eq!(rt; got, 0);
+    assert!(rt; out.taken() == transcript.as_bytes(), "65,536 replies");
     Ok(())
 }
 

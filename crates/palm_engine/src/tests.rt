@@ -6,10 +6,11 @@ ghost use Rattle.palm_batch.specs.declared.batch.TheConstants.{MOST_CALLS};
 use super::*;
 use palm_base::text::{append, append_number, append_rows};
 use palm_base::{Amount, Call, Digits, Entry, NoMemory, Steps};
-use palm_share::{MOST_WORKERS, OpenGate};
+use palm_share::{Gate, MOST_WORKERS, OpenGate, Who};
 use std::alloc::Global;
 use std::marker::Brand;
 use std::process::Abort;
+use std::sync::atomic::{AtomicBool, AtomicU64, Ordering};
 use std::sync::ledger::{Blank, Ledger};
 use std::test::Fail;
 use std::thread::Threads;
@@ -346,5 +347,67 @@ fn a_refused_batch_leaves_the_shape_of_before(rt: HostRuntime) -> Result<(), Fai
     let (grown, felled) = grown_and_felled::<HostRuntime, Brand>(&rt, alloc, Blank::new(1))?;
     assert!(rt; grown.as_slice() == three.as_slice(), "the Sets");
     assert!(rt; felled.as_slice() == one.as_slice(), "the Dels");
+    Ok(())
+}
+
+// Two workers that each raise a flag and look for the other's, for as long as it takes, or until one gives up.
+#[derive(Drop)]
+struct Flags {
+    first: AtomicBool,
+    second: AtomicBool,
+    gave_up: AtomicU64,
+}
+
+impl Flags {
+    fn meet(&self, mine: &AtomicBool, theirs: &AtomicBool) {
+        mine.store(true, Ordering::SeqCst);
+        for _ in 0..100_000_000u32 {
+            if theirs.load(Ordering::SeqCst) {
+                return;
+            }
+        }
+        self.gave_up.fetch_add(1, Ordering::SeqCst);
+    }
+}
+
+impl Gate for Flags {
+    fn pass(&self, who: Who, _turn: u64) {
+        match who {
+            Who::Worker(0) => self.meet(&self.first, &self.second),
+            Who::Worker(1) => self.meet(&self.second, &self.first),
+            _ => {}
+        }
+    }
+}
+
+// Runs Sets that meet two leaves of three with two workers, who pass a gate.
+fn run_gated<R: Threads + Sync + Abort, G: Gate + Sync, L: Ledger>(
+    rt: &R,
+    alloc: Global,
+    gate: &G,
+    blank: Blank,
+) -> Result<(), NoMemory>
+    requires blank_name { blank.name ≡ L.name }
+    requires blank_parts { blank.parts ≡ L.parts }
+    requires blank { 0 < blank.parts }
+{
+    let mut steps = Steps::<L>::new(blank);
+    let mut engine = left_by(rt, alloc, &[Edits::Sets(10, 43)], ALL, 1)?;
+    let roll = roll_of(rt, alloc, Edits::Sets(20, 30))?;
+    let replies = engine.run_list(rt, &roll, ALL, 2, gate, &mut steps)?;
+    assert_eq!(rt; replies.len(), 11);
+    Ok(())
+}
+
+#[test]
+fn two_workers_run_a_batch_beside_each_other(rt: HostRuntime) -> Result<(), Fail> {
+    let gate = Flags {
+        first: AtomicBool::new(false),
+        second: AtomicBool::new(false),
+        gave_up: AtomicU64::new(0),
+    };
+    run_gated::<_, _, Brand>(&rt, rt.alloc(), &gate, Blank::new(1))?;
+    assert_eq!(rt; gate.gave_up.load(Ordering::SeqCst), 0);
+    assert!(rt; gate.second.load(Ordering::SeqCst), "the second worker");
     Ok(())
 }

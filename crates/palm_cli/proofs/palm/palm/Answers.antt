@@ -32,8 +32,11 @@ returns-clause-cut_short g c = λ is. (read_ended _ _ _ _ c.run_and_tell-status.
 pub returns-clause-write : goal.returns-clause-write
 returns-clause-write g c = λ is. (write_ended _ _ _ _ c.run_and_tell-status.ensures.end (sym c.code.ensures ∙ is)).0
 
+pub returns-clause-unwritten : goal.returns-clause-unwritten
+returns-clause-unwritten g c = λ is. (write_ended _ _ _ _ c.run_and_tell-status.ensures.end (sym c.code.ensures ∙ is)).1
+
 pub returns-clause-stopped : goal.returns-clause-stopped
-returns-clause-stopped g c = λ is. stop_ended _ _ _ _ c.run_and_tell-status.ensures.end (rw (← c.code.ensures) is)
+returns-clause-stopped g c = λ is. stop_ended _ _ _ _ c.run_and_tell-status.ensures.end (sym c.code.ensures ∙ is)
 
 pub returns-clause-past : goal.returns-clause-past
 returns-clause-past g c = λ is. (long_ended _ _ _ _ c.run_and_tell-status.ensures.end (sym c.code.ensures ∙ is)).0
