@@ -2,6 +2,7 @@
 //!
 //!     map KIND COUNT BATCH WORKERS    makes the calls of `palm_bench`, and prints its line
 //!     map gen CALLS SEED              makes the calls of `palm gen`, and prints its lines
+//!     map replay BATCH                does what `palm replay --batch BATCH` does with a good script without dumps
 //!     map deck                        does what `palm deck` does: applies the deck on standard input, and writes the table as one
 //!
 //! It prints 0 levels. BATCH and WORKERS change nothing. A deck is split at its commas, and quotes around a field are dropped.
@@ -10,7 +11,6 @@
 
 use std::collections::BTreeMap;
 use std::env;
-use std::hint::black_box;
 use std::io::{self, BufWriter, Write};
 use std::process::ExitCode;
 
@@ -23,6 +23,13 @@ const RUN: u64 = 16;
 /// The greatest number of calls of a run, so that all its prefixes have nine digits.
 const MOST_COUNT: u64 = 100_000_000;
 
+/// How many rows a List shows at most, and how far the last prefix of a narrow one is from its first.
+const LISTED: usize = 8;
+const NARROW: u64 = 16;
+
+/// The numbers of nine digits, counted from `FIRST`, that nested prefixes begin.
+const NUMBERS: u64 = 900_000_000;
+
 /// Packed keys of prefixes to rates.
 type Table = BTreeMap<u64, u64>;
 
@@ -33,6 +40,11 @@ enum Kind {
     Edits,
     Gets,
     Rates,
+    Nested,
+    Narrow,
+    Wide,
+    Looks,
+    Half,
 }
 
 enum Call {
@@ -49,8 +61,8 @@ enum Reply {
     Gone(u64),
     Absent,
     Value(u64),
-    Hit(u64),
-    Rows,
+    Hit(u64, u64),
+    Rows(Vec<(u64, u64)>),
 }
 
 /// A linear congruential generator.
@@ -65,6 +77,7 @@ struct Feed {
     made: u64,
     random: Random,
     start: u64,
+    nested: bool,
 }
 
 /// The packed key of a prefix, a number that is written with so many digits: a group of four bits for each from the top, and in
@@ -92,12 +105,24 @@ fn digits_of(key: u64) -> String {
         .collect()
 }
 
-/// The rate of the longest prefix that begins a number.
-fn longest(table: &Table, number: u64) -> Option<u64> {
-    let digits = (number % 16) as u32;
-    (1..=digits)
-        .rev()
-        .find_map(|digits| table.get(&front(number, digits)).copied())
+/// How many digits two keys have in common at their front, at most so many.
+fn common(left: u64, right: u64, most: u32) -> u32 {
+    ((left ^ right).leading_zeros() / 4).min(most)
+}
+
+/// The row of the longest prefix that begins a number. Where the last key up to a front of the number doesn't begin it, no front
+/// longer than what they have in common is a key.
+fn longest(table: &Table, number: u64) -> Option<(u64, u64)> {
+    let mut digits = (number % 16) as u32;
+    while digits > 0 {
+        let (&key, &rate) = table.range(..=front(number, digits)).next_back()?;
+        let own = (key % 16) as u32;
+        digits = common(key, number, own.min(digits));
+        if digits == own {
+            return Some((key, rate));
+        }
+    }
+    None
 }
 
 fn reply(table: &mut Table, call: Call) -> Reply {
@@ -105,11 +130,14 @@ fn reply(table: &mut Table, call: Call) -> Reply {
         Call::Set(key, rate) => table.insert(key, rate).map_or(Reply::New, Reply::Was),
         Call::Del(key) => table.remove(&key).map_or(Reply::Absent, Reply::Gone),
         Call::Get(key) => table.get(&key).copied().map_or(Reply::Absent, Reply::Value),
-        Call::Rate(number) => longest(table, number).map_or(Reply::Absent, Reply::Hit),
+        Call::Rate(number) => {
+            longest(table, number).map_or(Reply::Absent, |(key, rate)| Reply::Hit(key, rate))
+        }
+        // A range that ends before it begins has no rows, and `range` refuses it.
+        Call::List(from, to, _) if from > to => Reply::Rows(Vec::new()),
         Call::List(from, to, limit) => {
-            let rows: Vec<_> = table.range(from..=to).take(limit).collect();
-            black_box(rows);
-            Reply::Rows
+            let rows = table.range(from..=to).take(limit);
+            Reply::Rows(rows.map(|(key, rate)| (*key, *rate)).collect())
         }
     }
 }
@@ -134,14 +162,25 @@ fn set(number: u64, rate: u64) -> Call {
     Call::Set(nine_digits(number), rate % 1_000)
 }
 
+fn rate(number: u64) -> Call {
+    Call::Rate(key_of((number + FIRST) * 1_000 + 555, 12))
+}
+
+fn list(from: u64, to: u64) -> Call {
+    // The prefix after the last of nine digits is written with its last nine.
+    let last = |number: u64| key_of((number + FIRST) % 1_000_000_000, 9);
+    Call::List(last(from), last(to), LISTED)
+}
+
 impl Feed {
-    fn new(kind: Kind, rows: u64) -> Feed {
+    fn new(kind: Kind, rows: u64, nested: bool) -> Feed {
         Feed {
             kind,
             span: 2 * rows,
             made: 0,
             random: Random { state: 1 },
             start: 0,
+            nested,
         }
     }
 
@@ -161,15 +200,45 @@ impl Feed {
         }
     }
 
+    fn set_nested(&mut self, turn: u64) -> Call {
+        let number = nine_digits(self.random.draw() % NUMBERS);
+        Call::Set(front(number, 4 + (turn % 6) as u32), turn % 1_000)
+    }
+
+    fn look_up(&mut self, turn: u64) -> Call {
+        let number = self.draw();
+        match turn % 3 {
+            0 => Call::Get(nine_digits(number)),
+            1 => rate(number),
+            _ => list(number, number + NARROW),
+        }
+    }
+
+    fn mixed(&mut self, turn: u64, each: u64) -> Call {
+        if turn % each == 0 {
+            return set(self.draw(), turn);
+        }
+        self.look_up(turn)
+    }
+
     fn next(&mut self) -> Call {
         let turn = self.made;
         self.made += 1;
         match self.kind {
+            Kind::Load if self.nested => self.set_nested(turn),
             Kind::Load => set(turn * 2, turn),
             Kind::Sets => set(self.draw(), turn),
             Kind::Edits => self.edit(turn),
             Kind::Gets => Call::Get(nine_digits(self.draw())),
-            Kind::Rates => Call::Rate(key_of((self.draw() + FIRST) * 1_000 + 555, 12)),
+            Kind::Rates => rate(self.draw()),
+            Kind::Nested => rate(self.random.draw() % NUMBERS),
+            Kind::Narrow => {
+                let number = self.draw();
+                list(number, number + NARROW)
+            }
+            Kind::Wide => list(self.draw(), NUMBERS - 1),
+            Kind::Looks => self.mixed(turn, 10),
+            Kind::Half => self.mixed(turn, 2),
         }
     }
 }
@@ -182,8 +251,8 @@ fn number_of(reply: Reply) -> u64 {
         Reply::Gone(rate) => 3 + 8 * rate,
         Reply::Absent => 4,
         Reply::Value(rate) => 5 + 8 * rate,
-        Reply::Hit(rate) => 6 + 8 * rate,
-        Reply::Rows => 7,
+        Reply::Hit(_, rate) => 6 + 8 * rate,
+        Reply::Rows(_) => 7,
     }
 }
 
@@ -197,9 +266,10 @@ fn run_calls(table: &mut Table, mut feed: Feed, count: u64, mut sum: u64) -> u64
 
 fn run_kind(kind: Kind, count: u64) {
     let mut table = Table::new();
-    let mut sum = run_calls(&mut table, Feed::new(Kind::Load, count), count, 0);
+    let nested = kind == Kind::Nested;
+    let mut sum = run_calls(&mut table, Feed::new(Kind::Load, count, nested), count, 0);
     if kind != Kind::Load {
-        sum = run_calls(&mut table, Feed::new(kind, count), count, sum);
+        sum = run_calls(&mut table, Feed::new(kind, count, nested), count, sum);
     }
     println!("rows {} levels 0 sum {sum:016x}", table.len());
 }
@@ -228,7 +298,7 @@ fn gen_calls(calls: u64, seed: u64) {
     let (mut hits, mut sum) = (0, 0);
     for _ in 0..calls {
         match reply(&mut table, made_up(&mut random)) {
-            Reply::Hit(rate) => {
+            Reply::Hit(_, rate) => {
                 hits += 1;
                 sum += rate;
             }
@@ -238,6 +308,78 @@ fn gen_calls(calls: u64, seed: u64) {
     }
     let rows = table.len();
     println!("calls {calls}\nrows {rows}\nlevels 0\nhits {hits}\nsum {sum}");
+}
+
+// ---- scripts
+
+/// The key of a prefix that is written in digits.
+fn written(text: &str) -> Option<u64> {
+    Some(key_of(text.parse().ok()?, text.len() as u32))
+}
+
+/// The caller and the call on a line of a script. `None` where it says none.
+fn call_on(line: &str) -> Option<(&str, Call)> {
+    let mut fields = line.split_ascii_whitespace();
+    let (caller, word) = (fields.next()?, fields.next()?);
+    let key = written(fields.next()?)?;
+    let call = match word {
+        "set" => Call::Set(key, fields.next()?.parse().ok()?),
+        "del" => Call::Del(key),
+        "get" => Call::Get(key),
+        "rate" => Call::Rate(key),
+        "list" => Call::List(key, written(fields.next()?)?, fields.next()?.parse().ok()?),
+        _ => return None,
+    };
+    Some((caller, call))
+}
+
+fn write_reply(out: &mut impl Write, reply: Reply) -> io::Result<()> {
+    match reply {
+        Reply::New => write!(out, "new"),
+        Reply::Was(rate) => write!(out, "was {rate}"),
+        Reply::Gone(rate) => write!(out, "gone {rate}"),
+        Reply::Absent => write!(out, "absent"),
+        Reply::Value(rate) => write!(out, "value {rate}"),
+        Reply::Hit(key, rate) => write!(out, "{} {rate}", digits_of(key)),
+        Reply::Rows(rows) => {
+            write!(out, "rows {}", rows.len())?;
+            for (key, rate) in rows {
+                write!(out, " {} {rate}", digits_of(key))?;
+            }
+            Ok(())
+        }
+    }
+}
+
+fn run_script(batch: u64) -> io::Result<()> {
+    let text = io::read_to_string(io::stdin())?;
+    let mut out = BufWriter::new(io::stdout().lock());
+    let mut table = Table::new();
+    let (mut calls, mut open) = (0_u64, 0);
+    for line in text.lines() {
+        let Some((caller, call)) = call_on(line) else {
+            // A cut, a comment or an empty line. None of them is a call.
+            if line.trim() == "cut" && open > 0 {
+                writeln!(out, "= {open}")?;
+                open = 0;
+            }
+            continue;
+        };
+        write!(out, "{calls} {caller} ")?;
+        write_reply(&mut out, reply(&mut table, call))?;
+        writeln!(out)?;
+        calls += 1;
+        open += 1;
+        if open == batch {
+            writeln!(out, "= {open}")?;
+            open = 0;
+        }
+    }
+    if open > 0 {
+        writeln!(out, "= {open}")?;
+    }
+    writeln!(out, "end {calls} {}", table.len())?;
+    out.flush()
 }
 
 // ---- decks
@@ -289,6 +431,11 @@ fn kind_named(word: &str) -> Option<Kind> {
         "edits" => Some(Kind::Edits),
         "gets" => Some(Kind::Gets),
         "rates" => Some(Kind::Rates),
+        "nested" => Some(Kind::Nested),
+        "narrow" => Some(Kind::Narrow),
+        "wide" => Some(Kind::Wide),
+        "looks" => Some(Kind::Looks),
+        "half" => Some(Kind::Half),
         _ => None,
     }
 }
@@ -297,6 +444,7 @@ fn kind_named(word: &str) -> Option<Kind> {
 fn run(words: &[&str]) -> Option<io::Result<()>> {
     match words {
         ["deck"] => return Some(run_deck()),
+        ["replay", batch] => return Some(run_script(read_number(batch, 65_536)?)),
         ["gen", calls, seed] => gen_calls(calls.parse().ok()?, seed.parse().ok()?),
         [kind, count, batch, workers] => {
             read_number(batch, 65_536)?;
@@ -318,9 +466,7 @@ fn main() -> ExitCode {
             ExitCode::FAILURE
         }
         None => {
-            eprintln!(
-                "map: load|sets|edits|gets|rates COUNT BATCH WORKERS, or gen CALLS SEED, or deck"
-            );
+            eprintln!("map: KIND COUNT BATCH WORKERS, or replay BATCH, or gen CALLS SEED, or deck");
             ExitCode::from(2)
         }
     }

@@ -8,7 +8,7 @@ use Rattle.palm_base.specs.declared.row.Row.{Row}
 use Rattle.palm_base.proofs.Every.{every_append}
 use Rattle.palm_base.proofs.Histories.{replies_to-append, table_after-append}
 use Rattle.palm_bench.specs.declared.feed.Kind.{Kind}
-use Rattle.palm_bench.specs.declared.feed.Kind.TheVariants.{Load, Sets, Edits, Gets, Rates}
+use Rattle.palm_bench.specs.declared.feed.Kind.TheVariants.{Load, Sets, Edits, Gets, Rates, Nested, Narrow, Wide, Looks, Half}
 use Rattle.palm_bench.specs.Kinds.{IsOfKind}
 use Rattle.palm_bench.specs.Runs.{with_reply, with_replies, HasRun, Leaves}
 
@@ -54,3 +54,8 @@ calls_leave kind count first loaded rows so_far sum other none load ran = by kin
     by Edits other ran = record { loaded = loaded; so_far = so_far; load = begins; run = ran }
     by Gets other ran = record { loaded = loaded; so_far = so_far; load = begins; run = ran }
     by Rates other ran = record { loaded = loaded; so_far = so_far; load = begins; run = ran }
+    by Nested other ran = record { loaded = loaded; so_far = so_far; load = begins; run = ran }
+    by Narrow other ran = record { loaded = loaded; so_far = so_far; load = begins; run = ran }
+    by Wide other ran = record { loaded = loaded; so_far = so_far; load = begins; run = ran }
+    by Looks other ran = record { loaded = loaded; so_far = so_far; load = begins; run = ran }
+    by Half other ran = record { loaded = loaded; so_far = so_far; load = begins; run = ran }

@@ -4,7 +4,7 @@ use Rattle.std.specs.Str.{bytes_eq}
 use Rattle.palm_base.specs.declared.call.Call.{Call}
 use Rattle.palm_base.specs.declared.call.Call.TheVariants.{Set, Del, Get, Rate, List as Listing}
 use Rattle.palm_bench.specs.declared.feed.Kind.{Kind}
-use Rattle.palm_bench.specs.declared.feed.Kind.TheVariants.{Load, Sets, Edits, Gets, Rates}
+use Rattle.palm_bench.specs.declared.feed.Kind.TheVariants.{Load, Sets, Edits, Gets, Rates, Nested, Narrow, Wide, Looks, Half}
 
 -- The kind that a word names. So "sets" names Sets, and "set" names none.
 abbrev pub kind_named : List ℕ → Option Kind
@@ -14,6 +14,11 @@ kind_named word =
     else if bytes_eq word (codes "edits") then Some Edits
     else if bytes_eq word (codes "gets") then Some Gets
     else if bytes_eq word (codes "rates") then Some Rates
+    else if bytes_eq word (codes "nested") then Some Nested
+    else if bytes_eq word (codes "narrow") then Some Narrow
+    else if bytes_eq word (codes "wide") then Some Wide
+    else if bytes_eq word (codes "looks") then Some Looks
+    else if bytes_eq word (codes "half") then Some Half
     else None
 
 -- The call is a Set. So Set 44 5 is, and Del 44 isn't.
@@ -48,6 +53,22 @@ IsRate (Get prefix) = ⊥
 IsRate (Rate number) = Unit {0}
 IsRate (Listing from to limit) = ⊥
 
+-- The call is a List. So List 4 5 9 is, and Get 44 isn't.
+abbrev pub IsList : Call → Type 0
+IsList (Set prefix rate) = ⊥
+IsList (Del prefix) = ⊥
+IsList (Get prefix) = ⊥
+IsList (Rate number) = ⊥
+IsList (Listing from to limit) = Unit {0}
+
+-- A Get, a Rate or a List. So Get 44 is one of them, and Set 44 5 isn't.
+abbrev pub IsLookUp : Call → Type 0
+IsLookUp call = IsGet call ⊎ (IsRate call ⊎ IsList call)
+
+-- A Set or a look-up. So Set 44 5 and Get 44 are one each, and Del 44 isn't.
+abbrev pub IsMixed : Call → Type 0
+IsMixed call = IsSet call ⊎ IsLookUp call
+
 -- A Set or a Del. So Set 44 5 and Del 44 are one each, and Get 44 isn't.
 abbrev pub IsEdit : Call → Type 0
 IsEdit call = IsSet call ⊎ IsDel call
@@ -59,3 +80,8 @@ IsOfKind Sets call = IsSet call
 IsOfKind Edits call = IsEdit call
 IsOfKind Gets call = IsGet call
 IsOfKind Rates call = IsRate call
+IsOfKind Nested call = IsRate call
+IsOfKind Narrow call = IsList call
+IsOfKind Wide call = IsList call
+IsOfKind Looks call = IsMixed call
+IsOfKind Half call = IsMixed call

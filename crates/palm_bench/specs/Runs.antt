@@ -9,11 +9,10 @@ use Rattle.palm_base.specs.declared.call.Reply.{Reply}
 use Rattle.palm_base.specs.declared.call.Reply.TheVariants.{New, Was, Gone, Absent, Value, Hit, Rows}
 use Rattle.palm_base.specs.declared.row.Row.{Row}
 use Rattle.palm_bench.specs.declared.feed.Kind.{Kind}
-use Rattle.palm_bench.specs.declared.feed.Kind.TheVariants.{Load, Sets, Edits, Gets, Rates}
+use Rattle.palm_bench.specs.declared.feed.Kind.TheVariants.{Load, Sets, Edits, Gets, Rates, Nested, Narrow, Wide, Looks, Half}
 use Rattle.palm_bench.specs.Kinds.{IsOfKind}
 
--- A reply as a number: its word's, and eight times its rate. So Value 5 is 45, and Hit of 44 at 5 is 46. No run has replies
--- to a List.
+-- A reply as a number: its word's, and eight times its rate. So Value 5 is 45, and Hit of 44 at 5 is 46.
 abbrev pub reply_number : Reply → ℕ
 reply_number New = 1
 reply_number (Was rate) = 2 + 8 * rate
@@ -57,6 +56,11 @@ Leaves Sets count rows sum = HasLoadedAndRun Sets count rows sum
 Leaves Edits count rows sum = HasLoadedAndRun Edits count rows sum
 Leaves Gets count rows sum = HasLoadedAndRun Gets count rows sum
 Leaves Rates count rows sum = HasLoadedAndRun Rates count rows sum
+Leaves Nested count rows sum = HasLoadedAndRun Nested count rows sum
+Leaves Narrow count rows sum = HasLoadedAndRun Narrow count rows sum
+Leaves Wide count rows sum = HasLoadedAndRun Wide count rows sum
+Leaves Looks count rows sum = HasLoadedAndRun Looks count rows sum
+Leaves Half count rows sum = HasLoadedAndRun Half count rows sum
 
 -- What is told of a run: the rows and the levels of the lawful tree that it leaves, and the sum over its replies.
 -- So of the load Set 44 5 these are 1 row, 1 level and the sum 1.

@@ -3,9 +3,9 @@
 ghost use Rattle.std.specs.Prelude.{◌≡◌, ◌<◌, ◌≤◌, length, All, false};
 ghost use Rattle.palm_base.specs.Prefix.{is_no_digit};
 ghost use Rattle.palm_bench.specs.declared.plan.TheConstants.{MOST_COUNT};
-ghost use Rattle.palm_bench.specs.Kinds.{IsSet, IsDel, IsGet, IsRate, IsEdit, IsOfKind};
+ghost use Rattle.palm_bench.specs.Kinds.{IsSet, IsDel, IsGet, IsRate, IsList, IsEdit, IsLookUp, IsMixed, IsOfKind};
 
-use palm_base::{Amount, Call, Digits};
+use palm_base::{Amount, Call, Digits, Limit};
 
 /// The number of nine digits from which prefixes are counted.
 const FIRST: u64 = 100_000_000;
@@ -24,6 +24,18 @@ const TAILS: u64 = 1_000;
 
 /// Rates are below this.
 const RATES: u64 = 1_000;
+
+/// How many rows a List shows at most.
+const LISTED: u32 = 8;
+
+/// How far the last prefix of a narrow List is from its first: every other number between them is loaded.
+const NARROW: u64 = 16;
+
+/// The numbers that nested prefixes begin: those of nine digits, counted from `FIRST`.
+const NUMBERS: u64 = 900_000_000;
+
+/// How many digits a nested prefix has at least.
+const NESTED_DIGITS: u64 = 4;
 
 /// How many neighbouring prefixes are edited one after another.
 const RUN: u64 = 16;
@@ -50,6 +62,16 @@ pub enum Kind {
     Gets,
     /// Rates of random numbers of twelve digits, which begin with loaded prefixes or with others.
     Rates,
+    /// The same on a table of nested prefixes, of four to nine digits.
+    Nested,
+    /// Lists from random prefixes on that show about eight rows.
+    Narrow,
+    /// Lists from random prefixes to the last one, which show their first eight rows.
+    Wide,
+    /// Nine look-ups for each Set: Gets, Rates and narrow Lists by turns.
+    Looks,
+    /// A look-up for each Set.
+    Half,
 }
 
 /// Makes the calls of a kind on a table that is loaded with as many rows.
@@ -65,6 +87,8 @@ pub struct Feed {
     random: u64,
     /// Where the run of edits under way begins.
     start: u64,
+    /// Whether a load is of nested prefixes.
+    nested: bool,
     ghost some: { 0 < span },
 }
 
@@ -145,9 +169,22 @@ fn rate(number: u64) -> Call
     }
 }
 
+fn list(from: u64, to: u64) -> Call
+    ensures { IsList result }
+{
+    let Some(limit) = Limit::new(LISTED) else {
+        unreachable!()
+    };
+    Call::List {
+        from: prefix_of(from),
+        to: prefix_of(to),
+        limit,
+    }
+}
+
 impl Feed {
-    /// The calls of a kind on a table of as many loaded rows, or those that load it.
-    pub fn new(kind: Kind, rows: u64) -> Feed
+    /// The calls of a kind on a table of as many loaded rows, or those that load it, with nested prefixes or with rising ones.
+    pub fn new(kind: Kind, rows: u64, nested: bool) -> Feed
         requires some { 1 ≤ rows }
         requires few { rows ≤ MOST_COUNT }
         ensures { result.kind ≡ kind }
@@ -158,17 +195,78 @@ impl Feed {
             made: 0,
             random: SEED,
             start: 0,
+            nested,
         }
     }
 
-    // A random number below the span.
-    fn draw(&mut self) -> u64
-        ensures below { result < self.old.span }
+    // A random number below a bound.
+    fn draw_below(&mut self, bound: u64) -> u64
+        requires some { 0 < bound }
+        ensures below { result < bound }
         ensures kind { self.new.kind ≡ self.old.kind }
     {
         self.random = self.random.wrapping_mul(FACTOR).wrapping_add(INCREMENT);
         // The upper half, whose bits repeat after far more numbers than the lower ones.
-        (self.random >> 32) % self.span
+        (self.random >> 32) % bound
+    }
+
+    // A random number below the span.
+    fn draw(&mut self) -> u64
+        ensures kind { self.new.kind ≡ self.old.kind }
+    {
+        self.draw_below(self.span)
+    }
+
+    // The Set of a random prefix of four to nine digits.
+    fn set_nested(&mut self, turn: u64) -> Call
+        ensures set { IsSet result }
+        ensures kind { self.new.kind ≡ self.old.kind }
+    {
+        let digits = NESTED_DIGITS + turn % (PREFIX_DIGITS as u64 + 1 - NESTED_DIGITS);
+        let prefix = prefix_of(self.draw_below(NUMBERS)).front(digits as u32);
+        let Some(rate) = Amount::new(turn % RATES) else {
+            unreachable!()
+        };
+        Call::Set { prefix, rate }
+    }
+
+    // A look-up: a Get, a Rate or a narrow List, by turns.
+    fn look_up(&mut self, turn: u64) -> Call
+        ensures look_up { IsLookUp result }
+        ensures kind { self.new.kind ≡ self.old.kind }
+    {
+        let number = self.draw();
+        match turn % 3 {
+            0 => get(number),
+            1 => rate(number),
+            _ => list(number, number.wrapping_add(NARROW)),
+        }
+    }
+
+    // A Set where the number of the call is one of these, and else a look-up.
+    fn mixed(&mut self, turn: u64, each: u64) -> Call
+        requires some { 0 < each }
+        ensures mixed { IsMixed result }
+        ensures kind { self.new.kind ≡ self.old.kind }
+    {
+        if turn % each == 0 {
+            return set(self.draw(), turn);
+        }
+        self.look_up(turn)
+    }
+
+    // A List from a random prefix on, narrow or to the last prefix.
+    fn list_on(&mut self, narrow: bool) -> Call
+        ensures list { IsList result }
+        ensures kind { self.new.kind ≡ self.old.kind }
+    {
+        let number = self.draw();
+        let to = if narrow {
+            number.wrapping_add(NARROW)
+        } else {
+            NUMBERS - 1
+        };
+        list(number, to)
     }
 
     // The edit with this number among all calls.
@@ -194,11 +292,17 @@ impl Feed {
         let turn = self.made;
         self.made = turn.wrapping_add(1);
         match self.kind {
+            Kind::Load if self.nested => self.set_nested(turn),
             Kind::Load => set(turn.wrapping_mul(2), turn),
             Kind::Sets => set(self.draw(), turn),
             Kind::Edits => self.edit(turn),
             Kind::Gets => get(self.draw()),
             Kind::Rates => rate(self.draw()),
+            Kind::Nested => rate(self.draw_below(NUMBERS)),
+            Kind::Narrow => self.list_on(true),
+            Kind::Wide => self.list_on(false),
+            Kind::Looks => self.mixed(turn, 10),
+            Kind::Half => self.mixed(turn, 2),
         }
     }
 }

@@ -33,7 +33,7 @@ fn planned(rt: &HostRuntime) -> Option<Plan> {
 
 fn main(rt: HostRuntime) -> ExitCode {
     let Some(plan) = planned(&rt) else {
-        let _ = eprintln!(rt; "palm_bench: load|sets|edits|gets|rates COUNT BATCH WORKERS");
+        let _ = eprintln!(rt; "palm_bench: KIND COUNT BATCH WORKERS");
         return ExitCode::from(USAGE);
     };
     let Ok(outcome) = run::<_, Brand>(&rt, rt.alloc(), plan, Blank::new(1)) else {

@@ -95,7 +95,8 @@ fn run_calls<R: Threads + Sync, L: Ledger>(
     ensures lawful { IsLawful (tree_in engine.new.tree) }
     ensures ran { IfOk result (λ total. HasRun kind plan.count (rows_of (tree_in engine.old.tree)) (rows_of (tree_in engine.new.tree)) sum total) }
 {
-    let mut feed = Feed::new(kind, plan.count);
+    let nested = matches!(plan.kind, Kind::Nested);
+    let mut feed = Feed::new(kind, plan.count, nested);
     let mut sum = sum;
     let mut left = plan.count;
     while left > 0 {

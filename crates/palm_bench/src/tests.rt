@@ -59,6 +59,11 @@ fn every_cutting_gives_the_replies_of_an_ordinary_map(rt: HostRuntime) -> Result
         ("edits", 300, 0xe486_6efa_23d6_0116),
         ("gets", 300, 0x7629_f06c_0ca1_2a08),
         ("rates", 300, 0x9b95_566b_2af4_e9c0),
+        ("nested", 300, 0x30d6_1fe8_8764_3ff0),
+        ("narrow", 300, 0x77d5_0578_230d_b600),
+        ("wide", 300, 0x77d5_0578_230d_b600),
+        ("looks", 316, 0xd281_e101_bc7c_1ceb),
+        ("half", 363, 0xb6cb_65cf_b60d_b509),
     ] {
         gives(&rt, rt.alloc(), kind, rows, sum)?;
     }

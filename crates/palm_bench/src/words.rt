@@ -18,6 +18,11 @@ fn read_kind(word: &str) -> Option<Kind>
         "edits" => Some(Kind::Edits),
         "gets" => Some(Kind::Gets),
         "rates" => Some(Kind::Rates),
+        "nested" => Some(Kind::Nested),
+        "narrow" => Some(Kind::Narrow),
+        "wide" => Some(Kind::Wide),
+        "looks" => Some(Kind::Looks),
+        "half" => Some(Kind::Half),
         _ => None,
     }
 }
