@@ -65,13 +65,13 @@ fn table(rt: &impl Abort, alloc: Global) -> Result<Tree, Fail> {
     Ok(Tree::build(alloc, &rows)?)
 }
 
-// What is known beforehand of the replies to two calls.
-fn known<R: Threads + Sync>(
+// Which of two calls are left to their batch.
+fn left_open<R: Threads + Sync>(
     rt: &R,
     tree: &Tree,
     calls: [Call; 2],
     workers: u32,
-) -> Result<Vec<Option<Reply>>, NoMemory>
+) -> Result<Vec<bool>, NoMemory>
     requires some { 1 ≤ workers }
     requires few { workers ≤ MOST_WORKERS }
 {
@@ -80,7 +80,11 @@ fn known<R: Threads + Sync>(
         place: 0,
         call,
     });
-    answer_unmet(rt, tree, &batch, workers, &OpenGate)
+    let mut open = Vec::new(tree.arena.allocator());
+    for known in answer_unmet(rt, tree, &batch, workers, &OpenGate)? {
+        open.push(known.is_none())?;
+    }
+    Ok(open)
 }
 
 #[test]
@@ -115,11 +119,16 @@ fn a_look_up_is_left_to_its_batch_exactly_where_an_edit_meets_it(
     ];
     let tree = table(&rt, rt.alloc())?;
     for (edit, look, met) in cases {
-        let before = known(&rt, &tree, [edit, look], 1)?;
-        let behind = known(&rt, &tree, [look, edit], MOST_WORKERS)?;
-        assert!(rt; before[0].is_none() && behind[1].is_none(), "{edit:?}");
-        assert_eq!(rt; before[1].is_none(), met, "{edit:?}, {look:?}");
-        assert_eq!(rt; behind[0].is_none(), met, "{look:?}, {edit:?}");
+        let before = left_open(&rt, &tree, [edit, look], 1)?;
+        let behind = left_open(&rt, &tree, [look, edit], MOST_WORKERS)?;
+        assert!(rt;
+            before.as_slice() == [true, met].as_slice(),
+            "{edit:?}, {look:?}"
+        );
+        assert!(rt;
+            behind.as_slice() == [met, true].as_slice(),
+            "{look:?}, {edit:?}"
+        );
     }
     Ok(())
 }
