@@ -9,7 +9,7 @@ use Rattle.std.proofs.lemmas.List.Sums.{sum_by-cons}
 use Rattle.palm_base.specs.Table.{answer, after}
 use Rattle.palm_base.specs.History.{calls_of, table_after, replies_to}
 use Rattle.palm_base.specs.Pass.{is_edit, set_of, passed_tree, batch_tree, orphans_of}
-use Rattle.palm_base.specs.Tree.{Tree, levels_of}
+use Rattle.palm_base.specs.Tree.{Tree, rows_of, levels_of}
 use Rattle.palm_base.specs.declared.row.Row.{Row}
 use Rattle.palm_base.specs.declared.call.Call.{Call}
 use Rattle.palm_base.specs.declared.call.Call.TheVariants.{Set, Del, Get, Rate, List as Listing}
@@ -22,11 +22,11 @@ use Rattle.palm_batch.specs.OpenCalls.{open_entries, filled}
 use Rattle.palm_batch.specs.Passing.{edits_in}
 
 -- What is known is of look-ups.
-abbrev pub OfLookUp : Option Reply → Entry → Type 0
+abbrev OfLookUp : Option Reply → Entry → Type 0
 OfLookUp None entry = Unit {0}
 OfLookUp (Some known) entry = is_edit entry.call ≡ false
 
-pub of_look_ups : (rows : List Row) (batch : List Entry) (all : List (Option Reply)) (entries : List Entry) → AllZip (IsKnownUnlessMet rows batch) all entries → AllZip OfLookUp all entries
+of_look_ups : (rows : List Row) (batch : List Entry) (all : List (Option Reply)) (entries : List Entry) → AllZip (IsKnownUnlessMet rows batch) all entries → AllZip OfLookUp all entries
 of_look_ups rows batch [] [] zip = tt
 of_look_ups rows batch [] (entry ∷ entries) zip = absurd zip
 of_look_ups rows batch (known ∷ all) [] zip = absurd zip
@@ -41,7 +41,7 @@ look_up_leaves rows (Rate number) not = refl
 look_up_leaves rows (Listing from to limit) not = refl
 
 -- The replies to the open calls fill those that are known up to all.
-pub filled_up : (rows : List Row) (all : List (Option Reply)) (batch : List Entry) → AllZip OfLookUp all batch → AllZip IsKnown all (replies_to rows batch)
+filled_up : (rows : List Row) (all : List (Option Reply)) (batch : List Entry) → AllZip OfLookUp all batch → AllZip IsKnown all (replies_to rows batch)
     → filled all (replies_to rows (open_entries all batch)) ≡ replies_to rows batch
 filled_up rows [] [] of known = refl
 filled_up rows [] (entry ∷ batch) of known = absurd of
@@ -52,7 +52,7 @@ filled_up rows (Some reply ∷ all) (entry ∷ batch) of known =
     let rest : AllZip IsKnown all (replies_to rows batch) = subst (λ r. AllZip IsKnown all (replies_to r batch)) still known.1 in
     rw (still, filled_up rows all batch of.1 rest, known.0) refl
 
-pub table_open : (rows : List Row) (all : List (Option Reply)) (batch : List Entry) → AllZip OfLookUp all batch → table_after rows (open_entries all batch) ≡ table_after rows batch
+table_open : (rows : List Row) (all : List (Option Reply)) (batch : List Entry) → AllZip OfLookUp all batch → table_after rows (open_entries all batch) ≡ table_after rows batch
 table_open rows [] [] of = refl
 table_open rows [] (entry ∷ batch) of = absurd of
 table_open rows (item ∷ all) [] of = absurd of
@@ -67,7 +67,7 @@ edits_open (None ∷ all) (entry ∷ batch) of = rw (edits_open all batch of.1) 
 edits_open (Some reply ∷ all) (entry ∷ batch) of = rw (of.0) (edits_open all batch of.1)
 
 -- So they leave the tree of the batch,
-pub tree_open : (tree : Tree) (all : List (Option Reply)) (batch : List Entry) → AllZip OfLookUp all batch → batch_tree tree (calls_of (open_entries all batch)) ≡ batch_tree tree (calls_of batch)
+tree_open : (tree : Tree) (all : List (Option Reply)) (batch : List Entry) → AllZip OfLookUp all batch → batch_tree tree (calls_of (open_entries all batch)) ≡ batch_tree tree (calls_of batch)
 tree_open tree all batch of = ap (λ (edits : List Call). passed_tree (passed_tree tree edits) (map set_of (orphans_of tree edits))) (edits_open all batch of)
 
 -- and cost no more.
@@ -82,7 +82,7 @@ parts_open tree (Some reply ∷ all) (entry ∷ batch) =
     let right = sum_by-cons (λ (e : Entry). part_count (lows_in tree) e.call) entry batch in
     omega (arith, right, parts_open tree all batch)
 
-pub cost_open : (tree : Tree) (all : List (Option Reply)) (batch : List Entry) → AllZip OfLookUp all batch → cost_on tree (open_entries all batch) ≤ cost_on tree batch
+cost_open : (tree : Tree) (all : List (Option Reply)) (batch : List Entry) → AllZip OfLookUp all batch → cost_on tree (open_entries all batch) ≤ cost_on tree batch
 cost_open tree all batch of =
     let left = open_entries all batch in
     let orphans : length (orphans_of tree (edits_in left)) ≡ length (orphans_of tree (edits_in batch)) = ap (λ (edits : List Call). length (orphans_of tree edits)) (edits_open all batch of) in
@@ -99,6 +99,26 @@ few_open [] batch = omega arith
 few_open (item ∷ all) [] = omega arith
 few_open (None ∷ all) (entry ∷ batch) = omega (arith, few_open all batch)
 few_open (Some reply ∷ all) (entry ∷ batch) = omega (arith, few_open all batch)
+
+-- What the open calls are to their batch, where its look-ups are known of a tree that is the one of before: they leave the same tree and
+-- table, cost no more, and their replies fill the known ones up.
+pub record StandFor (now before : Tree) (known : List (Option Reply)) (batch left : List Entry) : Type 0 where
+  pub tree : batch_tree now (calls_of left) ≡ batch_tree before (calls_of batch)
+  pub rows : table_after (rows_of now) left ≡ table_after (rows_of before) batch
+  pub cost : cost_on now left ≤ cost_on before batch
+  pub replies : AllZip IsKnown known (replies_to (rows_of now) batch) → filled known (replies_to (rows_of now) left) ≡ replies_to (rows_of before) batch
+
+pub stand_for : {now before : Tree} {known seen : List (Option Reply)} {batch left : List Entry} → now ≡ before → seen ≡ known → left ≡ open_entries seen batch
+    → AllZip (IsKnownUnlessMet (rows_of now) batch) known batch → StandFor now before known batch left
+stand_for {now} {before} {known} {seen} {batch} {left} same read is unmet =
+    let of : AllZip OfLookUp known batch = of_look_ups (rows_of now) batch known batch unmet in
+    let all : left ≡ open_entries known batch = is ∙ ap (λ l. open_entries l batch) read in
+    record {
+      tree = ap (λ (b : List Entry). batch_tree now (calls_of b)) all ∙ tree_open now known batch of ∙ ap (λ (t : Tree). batch_tree t (calls_of batch)) same;
+      rows = ap (table_after (rows_of now)) all ∙ table_open (rows_of now) known batch of ∙ ap (λ (t : Tree). table_after (rows_of t) batch) same;
+      cost = omega (arith, ap (cost_on now) all, cost_open now known batch of, ap (λ (t : Tree). cost_on t batch) same);
+      replies = λ told. ap (λ (b : List Entry). filled known (replies_to (rows_of now) b)) all ∙ filled_up (rows_of now) known batch of told ∙ ap (λ (t : Tree). replies_to (rows_of t) batch) same;
+    }
 
 -- ---- one after another
 

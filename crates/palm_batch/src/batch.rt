@@ -35,8 +35,10 @@ fn run_all<R: Threads + Sync, G: Gate + Sync, L: Ledger>(
     requires some { 1 ≤ workers }
     requires few { workers ≤ MOST_WORKERS }
     ensures tree { OnOk result (tree_in tree.new ≡ batch_tree (tree_in tree.old) (calls_of batch.now)) }
-    ensures replies { IfOk result (λ replies. replies.items ≡ replies_to (rows_of (tree_in tree.old)) batch.now) }
-    ensures rows { OnOk result (rows_of (tree_in tree.new) ≡ table_after (rows_of (tree_in tree.old)) batch.now) }
+    ensures replies { IfOk result (λ replies.
+        replies.items ≡ replies_to (rows_of (tree_in tree.old)) batch.now) }
+    ensures rows { OnOk result
+        (rows_of (tree_in tree.new) ≡ table_after (rows_of (tree_in tree.old)) batch.now) }
     ensures lawful { IsLawful (tree_in tree.new) }
     ensures err_nodes { OnErr result (tree.new.places ≡ tree.old.places) }
     ensures err_shape { OnErr result (tree.new.shape ≡ tree.old.shape) }
@@ -74,17 +76,20 @@ fn run_all<R: Threads + Sync, G: Gate + Sync, L: Ledger>(
 fn forget_moved(tree: &mut Tree)
     ensures places { tree.new.places ≡ tree.old.places }
     ensures shape { tree.new.shape ≡ tree.old.shape }
+    ensures tree { tree_in tree.new ≡ tree_in tree.old }
     ensures moved { tree.new.moved ≡ [] }
 {
     tree.arena.begin();
     tree.arena.commit();
 }
 
-/// Runs a batch of calls over a tree, with so many workers, and gives the replies in the batch's order: each is the table's at
-/// its call's place. The tree is then the serial rule's, node for node, whatever the workers and the gate.
+/// Runs a batch of calls over a tree, with so many workers, and gives the replies in the batch's order: each is the
+/// table's at its call's place. The tree is then the serial rule's, node for node, whatever the workers and the
+/// gate.
 ///
-/// A look-up that no edit of the batch could change is answered on the tree as it stands before the batch, and costs a way down.
-/// The other calls cost a sort of their parts, a way down for each, and the touched nodes; what no part touches isn't looked at.
+/// A look-up that no edit of the batch could change is answered on the tree as it stands before the batch, and
+/// costs a way down. The other calls cost a sort of their parts, a way down for each, and the touched nodes; what
+/// no part touches isn't looked at.
 ///
 /// `NoMemory` where room was refused. The tree is then as before, node for node and id for id.
 pub fn run_batch<R: Threads + Sync, G: Gate + Sync, L: Ledger>(
@@ -99,8 +104,10 @@ pub fn run_batch<R: Threads + Sync, G: Gate + Sync, L: Ledger>(
     requires some { 1 ≤ workers }
     requires few { workers ≤ MOST_WORKERS }
     ensures tree { OnOk result (tree_in tree.new ≡ batch_tree (tree_in tree.old) (calls_of batch.now)) }
-    ensures replies { IfOk result (λ replies. replies.items ≡ replies_to (rows_of (tree_in tree.old)) batch.now) }
-    ensures rows { OnOk result (rows_of (tree_in tree.new) ≡ table_after (rows_of (tree_in tree.old)) batch.now) }
+    ensures replies { IfOk result (λ replies.
+        replies.items ≡ replies_to (rows_of (tree_in tree.old)) batch.now) }
+    ensures rows { OnOk result
+        (rows_of (tree_in tree.new) ≡ table_after (rows_of (tree_in tree.old)) batch.now) }
     ensures lawful { IsLawful (tree_in tree.new) }
     ensures err_nodes { OnErr result (tree.new.places ≡ tree.old.places) }
     ensures err_shape { OnErr result (tree.new.shape ≡ tree.old.shape) }
