@@ -1,10 +1,12 @@
 // The arena: the tree's nodes at places, which are their ids.
 //
-// A batch begins, lends nodes to change them, takes new ones and drops others, and then commits or rolls back. A lent node
-// moves out into its lease, and a copy of it stays in the journal until the batch ends. Ids that a batch dropped are used
-// again from the next batch on, and never within it, so that what stood there can be put back.
-ghost use Rattle.std.specs.Prelude.{◌≡◌, ◌+◌, ◌++◌, ◌∷◌, [], length, ◌<◌, Some, None, IsSome, is_some, IfOk, OnOk, OnErr};
-ghost use Rattle.palm_arena.specs.ArenaState.{ArenaState, node_at, with_place, undone, IsHeld, IsLent, IsVacant, IsVacantAtBegin, NoneLent, IsStill};
+// A batch begins, lends nodes to change them, takes new ones and drops others, and then commits or rolls back. A
+// lent node moves out into its lease, and a copy of it stays in the journal until the batch ends. Ids that a batch
+// dropped are used again from the next batch on, and never within it, so that what stood there can be put back.
+ghost use Rattle.std.specs.Prelude.{◌≡◌, ◌+◌, ◌++◌, ◌∷◌, [], length, ◌<◌, Some, None};
+ghost use Rattle.std.specs.Prelude.{IsSome, is_some, IfOk, OnOk, OnErr};
+ghost use Rattle.palm_arena.specs.ArenaState.{ArenaState, node_at, with_place, undone, IsHeld, IsLent, IsVacant};
+ghost use Rattle.palm_arena.specs.ArenaState.{IsVacantAtBegin, NoneLent, IsStill};
 ghost use Rattle.palm_arena.specs.Journal.{IsMarked, IsSame, Puts};
 
 use crate::journal::Journal;
@@ -17,8 +19,8 @@ use std::marker::Model;
 use std::mem;
 use std::sync::ledger::Ledger;
 
-/// The nodes of a tree, by their ids. Contracts see its places, those at the begin of the batch that is under way, and the
-/// ids that moved.
+/// The nodes of a tree, by their ids. Contracts see its places, those at the begin of the batch that is under way,
+/// and the ids that moved.
 #[derive(Debug, Drop)]
 pub struct Arena {
     places: Vec<Place>,
@@ -143,13 +145,16 @@ impl Arena {
         self.begun = Some(self.places.len());
     }
 
-    /// Lends a node, which moves out until its lease is given back. It counts one step. `NoMemory` where the batch's notes
-    /// of it were refused memory: the arena is unchanged.
+    /// Lends a node, which moves out until its lease is given back. It counts one step. `NoMemory` where the
+    /// batch's notes of it were refused memory: the arena is unchanged.
     pub fn lend<L: Ledger>(&mut self, id: NodeId, steps: &mut Steps<L>) -> Result<Lease, NoMemory>
         requires under_way { IsSome self.old.begun }
         requires held { IsHeld self.old.places id }
-        ensures lease { IfOk result (λ lease. (lease.id ≡ id) × (node_at self.old.places id ≡ Some lease.node)) }
-        ensures ok { OnOk result (self.new ≡ record self.old { places = with_place self.old.places id Place.Lent; moved = self.old.moved ++ id ∷ [] }) }
+        ensures lease { IfOk result (λ lease.
+            (lease.id ≡ id) × (node_at self.old.places id ≡ Some lease.node)) }
+        ensures ok { OnOk result
+            (self.new ≡ record self.old
+            { places = with_place self.old.places id Place.Lent; moved = self.old.moved ++ id ∷ [] }) }
         ensures err { OnErr result (self.new ≡ self.old) }
         ensures ticks { steps.new ≡ steps.old + 1 }
     {
@@ -170,7 +175,9 @@ impl Arena {
         requires { IsSome self.old.begun }
         ensures vacant { IfOk result (λ id. IsVacant self.old.places id) }
         ensures unused { IfOk result (λ id. IsVacantAtBegin self.old id) }
-        ensures ok { IfOk result (λ id. self.new ≡ record self.old { places = with_place self.old.places id (Place.Holds node); moved = self.old.moved ++ id ∷ [] }) }
+        ensures ok { IfOk result (λ id.
+            self.new ≡ record self.old
+            { places = with_place self.old.places id (Place.Holds node); moved = self.old.moved ++ id ∷ [] }) }
         ensures err { OnErr result (self.new ≡ self.old) }
         ensures ticks { steps.new ≡ steps.old + 1 }
     {
@@ -184,18 +191,21 @@ impl Arena {
     /// Puts a lent node back at its id, as it is in the lease. It takes no memory.
     pub fn give_back(&mut self, lease: Lease)
         requires { IsLent self.old.places lease.id }
-        ensures { self.new ≡ record self.old { places = with_place self.old.places lease.id (Place.Holds lease.node) } }
+        ensures { self.new ≡ record self.old
+            { places = with_place self.old.places lease.id (Place.Holds lease.node) } }
     {
         let Lease { id, node } = lease;
         self.places[id.place] = Place::Holds(node);
     }
 
-    /// Drops a node. Its id is free from the next batch on. `NoMemory` where the batch's notes of it were refused memory:
-    /// the arena is unchanged.
+    /// Drops a node. Its id is free from the next batch on. `NoMemory` where the batch's notes of it were refused
+    /// memory: the arena is unchanged.
     pub fn drop_node(&mut self, id: NodeId) -> Result<(), NoMemory>
         requires under_way { IsSome self.old.begun }
         requires held { IsHeld self.old.places id }
-        ensures ok { OnOk result (self.new ≡ record self.old { places = with_place self.old.places id Place.Empty }) }
+        ensures ok { OnOk result
+            (self.new ≡ record self.old
+            { places = with_place self.old.places id Place.Empty }) }
         ensures err { OnErr result (self.new ≡ self.old) }
     {
         self.journal.save(id, &self.places)?;
@@ -203,8 +213,8 @@ impl Arena {
         Ok(())
     }
 
-    /// Ends the batch, whose changes stay. It takes no memory, so that a batch that came so far isn't refused, and its time
-    /// grows with the places that the batch touched, and not with the arena.
+    /// Ends the batch, whose changes stay. It takes no memory, so that a batch that came so far isn't refused, and
+    /// its time grows with the places that the batch touched, and not with the arena.
     pub fn commit(&mut self)
         requires under_way { IsSome self.old.begun }
         requires none_lent { NoneLent self.old.places }
@@ -215,9 +225,9 @@ impl Arena {
         self.begun = None;
     }
 
-    /// Ends the batch and takes its changes back: each id has the node that it had at the begin, the ids that the batch took
-    /// are free, and none counts as moved. It takes no memory, since it follows a refusal of it, and its time grows with the
-    /// places that the batch touched, and not with the arena.
+    /// Ends the batch and takes its changes back: each id has the node that it had at the begin, the ids that the
+    /// batch took are free, and none counts as moved. It takes no memory, since it follows a refusal of it, and its
+    /// time grows with the places that the batch touched, and not with the arena.
     pub fn rollback(&mut self)
         requires under_way { IsSome self.old.begun }
         requires none_lent { NoneLent self.old.places }

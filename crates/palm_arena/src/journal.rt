@@ -1,5 +1,5 @@
-// The journal of a batch: what stood at each place that the batch touched, once for each of them, so that rolling back puts
-// it there again. Here a batch that began with the nodes a and b has lent 0 and taken a node c at 2:
+// The journal of a batch: what stood at each place that the batch touched, once for each of them, so that rolling
+// back puts it there again. Here a batch that began with the nodes a and b has lent 0 and taken a node c at 2:
 //
 //     places    Lent      | Holds b | Holds c
 //     touched   true      | false   | true
@@ -89,9 +89,9 @@ impl Journal {
         Ok(())
     }
 
-    /// The id to use again next, which isn't offered any more: it is free, and was when the batch began. `None` where no id
-    /// is offered, or where the one that was offered last is in use. Ids that a batch freed come before those of earlier
-    /// ones, and among themselves in the order in which the batch touched them first.
+    /// The id to use again next, which isn't offered any more: it is free, and was when the batch began. `None`
+    /// where no id is offered, or where the one that was offered last is in use. Ids that a batch freed come before
+    /// those of earlier ones, and among themselves in the order in which the batch touched them first.
     pub(crate) fn vacant(&mut self, places: &[Place]) -> Option<NodeId>
         requires { length self.old.touched.items ≡ length places.now }
         ensures inside { IfSome result (λ id. id.place < length places.now) }
@@ -115,8 +115,8 @@ impl Journal {
         }
     }
 
-    /// Ends a batch whose changes stay: nothing is saved any more, and places that it emptied are free. It takes no memory,
-    /// and the time that the batch's saved places take.
+    /// Ends a batch whose changes stay: nothing is saved any more, and places that it emptied are free. It takes no
+    /// memory, and the time that the batch's saved places take.
     pub(crate) fn forget(&mut self, places: &[Place])
         requires { Covers (length places.now) self.old }
         ensures saved { self.new.saved.items ≡ [] }
@@ -129,8 +129,8 @@ impl Journal {
         }
     }
 
-    /// Ends a batch whose changes are taken back: the places are those that it began with, as they were then. It takes no
-    /// memory, and the time that the batch's saved places take.
+    /// Ends a batch whose changes are taken back: the places are those that it began with, as they were then. It
+    /// takes no memory, and the time that the batch's saved places take.
     pub(crate) fn put_back(&mut self, places: &mut Vec<Place>, count: usize)
         requires within { count ≤ length places.old.items }
         requires covers { Covers (length places.old.items) self.old }

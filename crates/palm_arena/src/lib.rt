@@ -1,5 +1,5 @@
-//! Where the tree's nodes stand: an arena that lends them while a batch changes the tree, and takes back what an abandoned
-//! batch did, and the levels of nodes that are put over others up to a root.
+//! Where the tree's nodes stand: an arena that lends them while a batch changes the tree, and takes back what an
+//! abandoned batch did, and the levels of nodes that are put over others up to a root.
 #![tactic(auto)]
 
 mod arena;

@@ -41,7 +41,8 @@ impl Amount {
         Some(Amount { value })
     }
 
-    /// The rate that a number field spells. `None` exactly where the text is no number field or its value is above `MOST_RATE`.
+    /// The rate that a number field spells. `None` exactly where the text is no number field or its value is above
+    /// `MOST_RATE`.
     pub fn read(field: &[u8]) -> Option<Amount>
         ensures { result ≡ number_from_to 0 MOST_RATE field.now }
     {

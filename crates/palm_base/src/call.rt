@@ -1,4 +1,5 @@
-// What callers ask of the table, and what they are answered. What each call means is said by `answer` and `after` of `specs/Table`.
+// What callers ask of the table, and what they are answered. What each call means is said by `answer` and `after`
+// of `specs/Table`.
 use crate::amount::{Amount, Limit};
 use crate::digits::Digits;
 use crate::row::{Row, RowList};

@@ -8,7 +8,9 @@
 //
 // Keys stand in the order of their prefixes: a prefix stands before those that it begins, since it has zeros where they
 // have digits, and where those are zeros too, fewer digits come first.
-ghost use Rattle.std.specs.Prelude.{◌≡◌, ◌≤◌, ◌<◌, ◌-◌, ◌*◌, ◌/◌, ◌%◌, ◌^◌, nat_lt, length, All, false, position, IfSome, IfNone, Some, slice_index, take, List, ℕ};
+ghost use Rattle.std.specs.Prelude.{◌≡◌, ◌≤◌, ◌<◌, ◌-◌, ◌*◌, ◌/◌, ◌%◌, ◌^◌};
+ghost use Rattle.std.specs.Prelude.{nat_lt, length, All, false, position, IfSome, IfNone, Some, slice_index, take};
+ghost use Rattle.std.specs.Prelude.{List, ℕ};
 ghost use Rattle.palm_base.specs.Prefix.{IsPrefix, begins, digits_in, fault_text, is_no_digit, read_of};
 ghost use Rattle.palm_base.specs.Key.{key, digits_of, IsKey};
 ghost use Rattle.std.specs.List.{list_all, range_with_len};
@@ -81,7 +83,8 @@ fn first_no_digit(text: &[u8]) -> Option<usize>
 // Whether each of the first `count` groups of a word is a digit.
 fn are_digits(word: u64, count: u32) -> bool
     requires { count ≤ MOST_DIGITS }
-    ensures { result ≡ list_all (λ place. nat_lt (word / 2 ^ (60 - 4 * place) % 16) 10) (range_with_len 0 count) }
+    ensures { result ≡ list_all (λ place. nat_lt (word / 2 ^ (60 - 4 * place) % 16) 10)
+        (range_with_len 0 count) }
 {
     (0..count).all(|place| (word >> (60 - 4 * place)) % 16 < 10)
 }
@@ -89,8 +92,9 @@ fn are_digits(word: u64, count: u32) -> bool
 impl Digits {
     /// The prefix that a text spells.
     ///
-    /// `Empty` exactly where the text is empty, `NotDigit` exactly where one of the first `MOST_DIGITS` bytes is no digit,
-    /// with the place of the first such byte, and `Long` exactly where all of these are digits and more follow.
+    /// `Empty` exactly where the text is empty, `NotDigit` exactly where one of the first `MOST_DIGITS` bytes is no
+    /// digit, with the place of the first such byte, and `Long` exactly where all of these are digits and more
+    /// follow.
     pub fn read(text: &[u8]) -> Result<Digits, DigitsFault>
         ensures { result ≡ read_of text.now }
     {

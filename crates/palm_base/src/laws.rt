@@ -1,7 +1,10 @@
 //! Laws of the definitions. Each function has an empty body: its contract is the law.
 
-ghost use Rattle.palm_base.specs.Laws.{KeysKeepOrder, KeysAreDistinct, CallsKeepTables, HistoriesGoByCalls, RepliesStandInPlace, RepliesAreAsMany, PiecesJoin, PiecesAreCounted, PiecesAreSized, PiecesAreWide, FewAreOnePiece};
-ghost use Rattle.palm_base.specs.TreeLaws.{BatchesKeepRows, BatchesKeepLaw, SecondPassIsWhole, CuttingsKeepRows, CuttingsKeepLaw};
+ghost use Rattle.palm_base.specs.Laws.{KeysKeepOrder, KeysAreDistinct, CallsKeepTables, HistoriesGoByCalls};
+ghost use Rattle.palm_base.specs.Laws.{RepliesStandInPlace, RepliesAreAsMany, PiecesJoin, PiecesAreCounted};
+ghost use Rattle.palm_base.specs.Laws.{PiecesAreSized, PiecesAreWide, FewAreOnePiece};
+ghost use Rattle.palm_base.specs.TreeLaws.{BatchesKeepRows, BatchesKeepLaw, SecondPassIsWhole, CuttingsKeepRows};
+ghost use Rattle.palm_base.specs.TreeLaws.{CuttingsKeepLaw};
 
 /// Keys stand in the order of their prefixes, and no two prefixes have one key.
 pub fn keys_keep_order()
@@ -19,8 +22,8 @@ pub fn histories_go_by_calls()
     ensures { HistoriesGoByCalls }
 {}
 
-/// The replies to a history stand in its order, one for each entry: the reply at a place is the answer to the call there
-/// on the table that the entries before it leave.
+/// The replies to a history stand in its order, one for each entry: the reply at a place is the answer to the call
+/// there on the table that the entries before it leave.
 pub fn replies_stand_in_place()
     ensures place { RepliesStandInPlace }
     ensures count { RepliesAreAsMany }

@@ -1,5 +1,6 @@
 // Lists of items, which contracts see as plain lists.
-ghost use Rattle.std.specs.Prelude.{◌≡◌, ◌<◌, ◌++◌, ◌∷◌, [], length, ◌==◌, slice_get, Some, OnOk, OnErr, IfOk};
+ghost use Rattle.std.specs.Prelude.{◌≡◌, ◌<◌, ◌++◌, ◌∷◌, [], length, ◌==◌, slice_get, Some};
+ghost use Rattle.std.specs.Prelude.{OnOk, OnErr, IfOk};
 
 use crate::memory::NoMemory;
 use std::alloc::Global;

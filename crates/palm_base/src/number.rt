@@ -27,8 +27,8 @@ fn number(field: &[u8]) -> Option<u128>
     Some(value)
 }
 
-/// The value of a number field, where it is from `least` to `most`. A number field is 1 to 20 digits, of which the first may
-/// be zeros. `None` exactly where the text is no such field or its value is out of these bounds.
+/// The value of a number field, where it is from `least` to `most`. A number field is 1 to 20 digits, of which the
+/// first may be zeros. `None` exactly where the text is no such field or its value is out of these bounds.
 pub fn number_from_to(field: &[u8], least: u64, most: u64) -> Option<u64>
     ensures value { result ≡ number_from_to least most field.now }
     ensures least { IfSome result (λ n. least ≤ n) }

@@ -4,8 +4,8 @@ ghost use Rattle.std.specs.Prelude.{◌≡◌, ◌+◌, ◌<◌};
 use std::marker::Model;
 use std::sync::ledger::{Blank, Book, Ledger, Share};
 
-/// A counter of the steps that a call takes over the tree's nodes, so that contracts can bound them. Contracts see their
-/// number. It has no bytes at run time, and counting costs nothing.
+/// A counter of the steps that a call takes over the tree's nodes, so that contracts can bound them. Contracts see
+/// their number. It has no bytes at run time, and counting costs nothing.
 #[derive(Drop)]
 pub struct Steps<L: Ledger> {
     book: Book<L>,

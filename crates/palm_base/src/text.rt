@@ -1,5 +1,5 @@
-//! How prefixes, rates and rows are written, at the end of a buffer. Where memory is refused, part of a text may stand there
-//! behind what stood there before, which the caller takes back by `whole_or_nothing`.
+//! How prefixes, rates and rows are written, at the end of a buffer. Where memory is refused, part of a text may
+//! stand there behind what stood there before, which the caller takes back by `whole_or_nothing`.
 
 ghost use Rattle.std.specs.Prelude.{◌≡◌, ◌++◌, take, OnOk, OnErr};
 ghost use Rattle.std.specs.Fmt.{decimal};
@@ -12,7 +12,8 @@ use crate::memory::NoMemory;
 use crate::row::{Row, RowList};
 use itoa::Buffer;
 
-/// Takes back what was appended behind the first `before` bytes, where it wasn't appended whole, and answers `appended`.
+/// Takes back what was appended behind the first `before` bytes, where it wasn't appended whole, and answers
+/// `appended`.
 pub fn whole_or_nothing(
     before: usize,
     appended: Result<(), NoMemory>,

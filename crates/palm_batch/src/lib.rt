@@ -1,5 +1,5 @@
-//! Batches of calls over a tree: a pass of a batch's edits with the replies to its calls, and a second pass that puts the rows
-//! of removed nodes in again.
+//! Batches of calls over a tree: a pass of a batch's edits with the replies to its calls, and a second pass that
+//! puts the rows of removed nodes in again.
 #![tactic(auto)]
 
 mod batch;

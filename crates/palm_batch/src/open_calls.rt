@@ -28,7 +28,8 @@ pub(crate) fn has_look_up(batch: &[Entry]) -> bool
     batch.iter().any(|entry| !is_edit(&entry.call))
 }
 
-/// The entries of a batch of whose replies nothing is known, in their order. `NoMemory` where room for them was refused.
+/// The entries of a batch of whose replies nothing is known, in their order. `NoMemory` where room for them was
+/// refused.
 pub(crate) fn open_entries(
     alloc: Global,
     batch: &[Entry],
@@ -50,7 +51,9 @@ pub(crate) fn open_entries(
 fn next_reply(known: Option<Reply>, others: &mut IntoIter<Reply>) -> Option<Reply>
     requires len { into_iter_len others.old ≡ length (into_iter_items others.old) }
     ensures len { into_iter_len others.new ≡ length (into_iter_items others.new) }
-    ensures reply { (more : List (Option Reply)) → filled (known ∷ more) (into_iter_items others.old) ≡ option_to_list result ++ filled more (into_iter_items others.new) }
+    ensures reply { (more : List (Option Reply))
+        → filled (known ∷ more) (into_iter_items others.old)
+        ≡ option_to_list result ++ filled more (into_iter_items others.new) }
 {
     match known {
         Some(reply) => Some(reply),

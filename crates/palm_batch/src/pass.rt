@@ -57,7 +57,8 @@ pub(crate) fn route<R: Threads + Sync, G: Gate + Sync>(
     Ok(groups)
 }
 
-// Does the levels above the leaves, up to below the root. `NoMemory` where memory was refused: the batch has to be rolled back.
+// Does the levels above the leaves, up to below the root. `NoMemory` where memory was refused: the batch has to be
+// rolled back.
 pub(crate) fn change_levels<R: Threads + Sync, G: Gate + Sync, L: Ledger>(
     rt: &R,
     alloc: Global,
@@ -72,8 +73,11 @@ pub(crate) fn change_levels<R: Threads + Sync, G: Gate + Sync, L: Ledger>(
     requires none_lent { NoneLent arena.old.places }
     requires some { 1 ≤ workers }
     requires few { workers ≤ MOST_WORKERS }
-    requires stands { (p : Pass) × (shape.levels ≡ suc p.tree.0) × StandsAt p 1 (map_of arena.old.places) leaves }
-    ensures stands { IfOk result (λ made. (p : Pass) → shape.levels ≡ suc p.tree.0 → StandsAt p 1 (map_of arena.old.places) leaves → StandsAt p (level_below shape.levels) (map_of arena.new.places) made) }
+    requires stands { (p : Pass) × (shape.levels ≡ suc p.tree.0)
+        × StandsAt p 1 (map_of arena.old.places) leaves }
+    ensures stands { IfOk result (λ made.
+        (p : Pass) → shape.levels ≡ suc p.tree.0 → StandsAt p 1 (map_of arena.old.places) leaves
+        → StandsAt p (level_below shape.levels) (map_of arena.new.places) made) }
     ensures begun { arena.new.begun ≡ arena.old.begun }
     ensures none_lent { NoneLent arena.new.places }
     ensures within { IfOk result (λ made. (n : ℕ) → IsWithin n leaves → IsWithin n made) }
@@ -89,8 +93,8 @@ pub(crate) fn change_levels<R: Threads + Sync, G: Gate + Sync, L: Ledger>(
     Ok(changes)
 }
 
-/// Passes the Sets and Dels of a batch over the tree at `shape`, answers all its parts, and takes out the rows that the pass
-/// leaves over. The tree is then the serial rule's after its first pass, at the new shape.
+/// Passes the Sets and Dels of a batch over the tree at `shape`, answers all its parts, and takes out the rows that
+/// the pass leaves over. The tree is then the serial rule's after its first pass, at the new shape.
 ///
 /// `NoMemory` where room was refused. The batch has to be rolled back then.
 pub fn run_pass<R: Threads + Sync, G: Gate + Sync, L: Ledger>(
@@ -108,13 +112,19 @@ pub fn run_pass<R: Threads + Sync, G: Gate + Sync, L: Ledger>(
     requires some { 1 ≤ workers }
     requires few { workers ≤ MOST_WORKERS }
     requires tree { (tree : Tree) × IsTree tree (map_of arena.old.places) shape }
-    ensures tree { IfOk result (λ passed. (tree : Tree) → IsTree tree (map_of arena.old.places) shape → IsTree (passed_tree tree (edits_in batch.now)) (map_of arena.new.places) passed.shape) }
-    ensures orphans { IfOk result (λ passed. (tree : Tree) → IsTree tree (map_of arena.old.places) shape → passed.orphans ≡ orphans_of tree (edits_in batch.now)) }
-    ensures answers { IfOk result (λ passed. passed.answers ≡ answers_at (map_of arena.old.places) shape batch.now) }
+    ensures tree { IfOk result (λ passed.
+        (tree : Tree) → IsTree tree (map_of arena.old.places) shape
+        → IsTree (passed_tree tree (edits_in batch.now)) (map_of arena.new.places) passed.shape) }
+    ensures orphans { IfOk result (λ passed.
+        (tree : Tree) → IsTree tree (map_of arena.old.places) shape
+        → passed.orphans ≡ orphans_of tree (edits_in batch.now)) }
+    ensures answers { IfOk result (λ passed.
+        passed.answers ≡ answers_at (map_of arena.old.places) shape batch.now) }
     ensures prefixes { OnOk result (AllByRecursion (λ entry. EditsPrefix entry.call) batch.now) }
     ensures begun { arena.new.begun ≡ arena.old.begun }
     ensures none_lent { NoneLent arena.new.places }
-    ensures ticks { steps.new ≤ steps.old + 2 * length (parts_at (map_of arena.old.places) shape batch.now) * (shape.levels + 2) }
+    ensures ticks { steps.new ≤ steps.old + 2 * length
+        (parts_at (map_of arena.old.places) shape batch.now) * (shape.levels + 2) }
     ensures moved { length arena.new.moved + steps.old ≤ length arena.old.moved + steps.new }
 {
     let groups = route(rt, alloc, arena, shape, batch, workers, gate)?;

@@ -1,4 +1,5 @@
-// The passes of a batch over the nodes of a tree: one of its edits, with its replies, and one that puts its orphans in again.
+// The passes of a batch over the nodes of a tree: one of its edits, with its replies, and one that puts its orphans
+// in again.
 ghost use Rattle.std.specs.Prelude.{◌≡◌, ◌+◌, ◌≤◌, length, map, IsSome, IfOk};
 ghost use Rattle.palm_share.specs.declared.share.TheConstants.{MOST_WORKERS};
 ghost use Rattle.palm_base.specs.History.{calls_of, replies_to};
@@ -46,8 +47,8 @@ fn sets_of(alloc: Global, rows: &[Row]) -> Result<Vec<Entry>, NoMemory>
     Ok(rows.iter().map(set_entry).collect(alloc)?)
 }
 
-// Runs a batch over the tree at `shape`, whose arena a batch is under way in. Where memory is refused it has to be rolled back. A
-// batch of no calls touches nothing.
+// Runs a batch over the tree at `shape`, whose arena a batch is under way in. Where memory is refused it has to be
+// rolled back. A batch of no calls touches nothing.
 pub(crate) fn run_passes<R: Threads + Sync, G: Gate + Sync, L: Ledger>(
     rt: &R,
     alloc: Global,
@@ -63,11 +64,16 @@ pub(crate) fn run_passes<R: Threads + Sync, G: Gate + Sync, L: Ledger>(
     requires some { 1 ≤ workers }
     requires few { workers ≤ MOST_WORKERS }
     requires tree { (tree : Tree) × IsTree tree (map_of arena.old.places) shape }
-    ensures tree { IfOk result (λ ran. (tree : Tree) → IsTree tree (map_of arena.old.places) shape → IsTree (batch_tree tree (calls_of batch.now)) (map_of arena.new.places) ran.shape) }
-    ensures replies { IfOk result (λ ran. (tree : Tree) → IsTree tree (map_of arena.old.places) shape → ran.replies.items ≡ replies_to (rows_of tree) batch.now) }
+    ensures tree { IfOk result (λ ran.
+        (tree : Tree) → IsTree tree (map_of arena.old.places) shape
+        → IsTree (batch_tree tree (calls_of batch.now)) (map_of arena.new.places) ran.shape) }
+    ensures replies { IfOk result (λ ran.
+        (tree : Tree) → IsTree tree (map_of arena.old.places) shape
+        → ran.replies.items ≡ replies_to (rows_of tree) batch.now) }
     ensures begun { arena.new.begun ≡ arena.old.begun }
     ensures none_lent { NoneLent arena.new.places }
-    ensures ticks { (tree : Tree) → IsTree tree (map_of arena.old.places) shape → steps.new ≤ steps.old + cost_on tree batch.now }
+    ensures ticks { (tree : Tree) → IsTree tree (map_of arena.old.places) shape
+        → steps.new ≤ steps.old + cost_on tree batch.now }
     ensures moved { length arena.new.moved + steps.old ≤ length arena.old.moved + steps.new }
 {
     if batch.is_empty() {

@@ -5,7 +5,8 @@ ghost use Rattle.palm_base.specs.History.{replies_to};
 ghost use Rattle.palm_base.specs.declared.row.Row.{Row};
 ghost use Rattle.palm_arena.specs.Leaves.{LeafPlace};
 ghost use Rattle.palm_route.specs.Edits.{EditsPrefix};
-ghost use Rattle.palm_batch.specs.Replies.{unanswered, with_rate, with_found, joined, replies_joined, FindsRate, FindsRows, Fits, FitsEntry, IsSoFar, RatesPrefix, AreAnswers};
+ghost use Rattle.palm_batch.specs.Replies.{unanswered, with_rate, with_found, joined, replies_joined, FindsRate};
+ghost use Rattle.palm_batch.specs.Replies.{FindsRows, Fits, FitsEntry, IsSoFar, RatesPrefix, AreAnswers};
 
 use palm_base::{Amount, Call, Digits, Entry, NoMemory, Reply, Row, RowList};
 use palm_leaf::{AnswerList, LeafAnswer, PartAnswer};
@@ -29,7 +30,8 @@ fn begin_reply(alloc: Global, call: &Call) -> Reply
 
 // The replies to a batch before anything is joined to them.
 fn begin_replies(alloc: Global, batch: &[Entry]) -> Result<Vec<Reply>, NoMemory>
-    ensures replies { IfOk result (λ replies. replies.items ≡ map (λ entry. unanswered entry.call) batch.now) }
+    ensures replies { IfOk result (λ replies.
+        replies.items ≡ map (λ entry. unanswered entry.call) batch.now) }
     ensures prefixes { OnOk result (AllByRecursion (λ entry. RatesPrefix entry.call) batch.now) }
 {
     let mut replies = Vec::with_capacity(alloc, batch.len())?;
@@ -39,8 +41,8 @@ fn begin_replies(alloc: Global, batch: &[Entry]) -> Result<Vec<Reply>, NoMemory>
     Ok(replies)
 }
 
-// Joins to a call's reply the rate that a part by this key found, or that there is none. The fronts of a Rate come in rising
-// order, so that the last that has a rate is the longest.
+// Joins to a call's reply the rate that a part by this key found, or that there is none. The fronts of a Rate come
+// in rising order, so that the last that has a rate is the longest.
 fn join_rate(call: &Call, key: u64, rate: Option<Amount>, reply: &mut Reply)
     requires { FindsRate call.now key }
     ensures { reply.new ≡ with_rate call.now key rate reply.old }
@@ -121,8 +123,9 @@ fn join_all(batch: &[Entry], answers: AnswerList, replies: &mut [Reply]) -> Resu
     Ok(())
 }
 
-/// The replies to a batch, in the order of its entries, from what the leaves answer its parts in the order of the leaves. The
-/// rows of a List's first leaf are moved, and those of the others are copied behind them, as many as its limit allows.
+/// The replies to a batch, in the order of its entries, from what the leaves answer its parts in the order of the
+/// leaves. The rows of a List's first leaf are moved, and those of the others are copied behind them, as many as
+/// its limit allows.
 ///
 /// `NoMemory` where memory is refused for the replies.
 pub fn join_answers(
@@ -131,8 +134,12 @@ pub fn join_answers(
     answers: AnswerList,
 ) -> Result<Vec<Reply>, NoMemory>
     requires prefixes { AllByRecursion (λ entry. EditsPrefix entry.call) batch.now }
-    requires answers { (places : List LeafPlace) × (lows : List ℕ) × (rows : List Row) × AreAnswers places lows rows batch.now answers }
-    ensures replies { IfOk result (λ replies. (places : List LeafPlace) (lows : List ℕ) (rows : List Row) → AreAnswers places lows rows batch.now answers → replies.items ≡ replies_to rows batch.now) }
+    requires answers { (places : List LeafPlace) × (lows : List ℕ) × (rows : List Row)
+        × AreAnswers places lows rows batch.now answers }
+    ensures replies { IfOk result (λ replies.
+        (places : List LeafPlace) (lows : List ℕ) (rows : List Row)
+        → AreAnswers places lows rows batch.now answers
+        → replies.items ≡ replies_to rows batch.now) }
 {
     let mut replies = begin_replies(alloc, batch)?;
     join_all(batch, answers, &mut replies)?;

@@ -288,8 +288,8 @@ fn a_leaf_of_34_rows_becomes_three(rt: HostRuntime) -> Result<(), Fail> {
     Ok(())
 }
 
-// Two workers that each raise a flag at their first turn and look for the other's, for as long as it takes, or until one
-// gives up.
+// Two workers that each raise a flag at their first turn and look for the other's, for as long as it takes, or
+// until one gives up.
 #[derive(Drop)]
 struct Flags {
     first: AtomicBool,
@@ -319,8 +319,8 @@ impl Gate for Flags {
     }
 }
 
-// The tree of 100 to 499 has 25 full leaves under two nodes. Two Sets split its first leaf and its last, so that both nodes
-// are made anew.
+// The tree of 100 to 499 has 25 full leaves under two nodes. Two Sets split its first leaf and its last, so that
+// both nodes are made anew.
 #[test]
 fn two_workers_make_two_nodes_anew_beside_each_other(rt: HostRuntime) -> Result<(), Fail> {
     let alloc = rt.alloc();
@@ -339,8 +339,8 @@ fn two_workers_make_two_nodes_anew_beside_each_other(rt: HostRuntime) -> Result<
     Ok(())
 }
 
-// Two workers that count their passes. At its k-th each looks whether the other's count has come to k, for as long as it
-// takes, or until one gives up.
+// Two workers that count their passes. At its k-th each looks whether the other's count has come to k, for as long
+// as it takes, or until one gives up.
 #[derive(Drop)]
 struct Counts {
     first: AtomicU64,
@@ -392,7 +392,8 @@ fn replied<R: Threads + Sync, G: Gate + Sync, L: Ledger>(
     Ok(format!(in alloc; "{replies:?}")?)
 }
 
-// The two Sets are routed in two shares, change two leaves and make two nodes anew, so that each worker passes three times.
+// The two Sets are routed in two shares, change two leaves and make two nodes anew, so that each worker passes
+// three times.
 #[test]
 fn two_workers_come_through_a_whole_batch_beside_each_other(rt: HostRuntime) -> Result<(), Fail> {
     let alloc = rt.alloc();
@@ -458,8 +459,9 @@ fn dels_of(rt: &impl Abort, alloc: Global, from: u64, to: u64) -> Result<Vec<Cal
     Ok(calls)
 }
 
-// The tree of 10 to 26 has leaves of 9 and 8 rows, and that of 10 to 25 is one full leaf. That of 100 to 355 has 16 full
-// leaves, and that of 100 to 499 has 25 under nodes of 13 and 12, of which the Dels empty five under the second.
+// The tree of 10 to 26 has leaves of 9 and 8 rows, and that of 10 to 25 is one full leaf. That of 100 to 355 has 16
+// full leaves, and that of 100 to 499 has 25 under nodes of 13 and 12, of which the Dels empty five under the
+// second.
 #[test]
 fn a_pass_ends_in_a_root_and_gathers_orphans(rt: HostRuntime) -> Result<(), Fail> {
     let alloc = rt.alloc();

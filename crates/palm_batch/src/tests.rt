@@ -281,7 +281,10 @@ fn entry(call: Call) -> Entry
 }
 
 fn part_answer(entry: u64, key: u64, ask: Ask, rate: Option<Amount>) -> PartAnswer
-    ensures { result ≡ record { part = record { entry = entry; number = 0; key = key; ask = ask }; answer = Old rate } }
+    ensures { result ≡ record {
+      part = record { entry = entry; number = 0; key = key; ask = ask };
+      answer = Old rate;
+    } }
 {
     PartAnswer {
         part: Part {

@@ -1,5 +1,5 @@
-// The calls of a run, made one after another. The table is loaded with every other number from `FIRST` on, so that the numbers
-// between them are new prefixes all over the table.
+// The calls of a run, made one after another. The table is loaded with every other number from `FIRST` on, so that
+// the numbers between them are new prefixes all over the table.
 ghost use Rattle.std.specs.Prelude.{◌≡◌, ◌<◌, ◌≤◌, length, All, false};
 ghost use Rattle.palm_base.specs.Prefix.{is_no_digit};
 ghost use Rattle.palm_bench.specs.declared.plan.TheConstants.{MOST_COUNT};
@@ -183,7 +183,8 @@ fn list(from: u64, to: u64) -> Call
 }
 
 impl Feed {
-    /// The calls of a kind on a table of as many loaded rows, or those that load it, with nested prefixes or with rising ones.
+    /// The calls of a kind on a table of as many loaded rows, or those that load it, with nested prefixes or with
+    /// rising ones.
     pub fn new(kind: Kind, rows: u64, nested: bool) -> Feed
         requires some { 1 ≤ rows }
         requires few { rows ≤ MOST_COUNT }

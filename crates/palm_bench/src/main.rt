@@ -1,5 +1,5 @@
-//! The program `palm_bench KIND COUNT BATCH WORKERS`: runs calls on a table in batches, and prints a line of what came of them,
-//! for measurements beside `bench/map.rs`, which makes the same calls on an ordinary map.
+//! The program `palm_bench KIND COUNT BATCH WORKERS`: runs calls on a table in batches, and prints a line of what
+//! came of them, for measurements beside `bench/map.rs`, which makes the same calls on an ordinary map.
 #![tactic(auto)]
 
 mod feed;

@@ -66,7 +66,8 @@ fn add_all(sum: u64, replies: &[Reply]) -> u64
 // Makes the next calls in place of those of the batch before.
 fn fill(feed: &mut Feed, count: u64, batch: &mut Vec<Entry>) -> Result<(), NoMemory>
     ensures many { OnOk result (length batch.new.items ≡ count) }
-    ensures kinds { OnOk result (AllByRecursion (λ entry. IsOfKind feed.old.kind entry.call) batch.new.items) }
+    ensures kinds { OnOk result
+        (AllByRecursion (λ entry. IsOfKind feed.old.kind entry.call) batch.new.items) }
     ensures kind { feed.new.kind ≡ feed.old.kind }
 {
     batch.clear();
@@ -93,7 +94,9 @@ fn run_calls<R: Threads + Sync, L: Ledger>(
 ) -> Result<u64, NoMemory>
     requires lawful { IsLawful (tree_in engine.old.tree) }
     ensures lawful { IsLawful (tree_in engine.new.tree) }
-    ensures ran { IfOk result (λ total. HasRun kind plan.count (rows_of (tree_in engine.old.tree)) (rows_of (tree_in engine.new.tree)) sum total) }
+    ensures ran { IfOk result (λ total.
+        HasRun kind plan.count (rows_of (tree_in engine.old.tree))
+        (rows_of (tree_in engine.new.tree)) sum total) }
 {
     let nested = matches!(plan.kind, Kind::Nested);
     let mut feed = Feed::new(kind, plan.count, nested);
@@ -119,7 +122,8 @@ fn run_plan<R: Threads + Sync, L: Ledger>(
 ) -> Result<u64, NoMemory>
     requires new { tree_in engine.old.tree ≡ (zero, []) }
     ensures lawful { IsLawful (tree_in engine.new.tree) }
-    ensures leaves { IfOk result (λ sum. Leaves plan.kind plan.count (rows_of (tree_in engine.new.tree)) sum) }
+    ensures leaves { IfOk result (λ sum.
+        Leaves plan.kind plan.count (rows_of (tree_in engine.new.tree)) sum) }
 {
     let sum = run_calls(rt, engine, plan, Kind::Load, entries, 0, steps)?;
     if let Kind::Load = plan.kind {
@@ -139,7 +143,8 @@ pub fn run<R: Threads + Sync, L: Ledger>(
     requires blank_name { blank.name ≡ L.name }
     requires blank_parts { blank.parts ≡ L.parts }
     requires blank { 0 < blank.parts }
-    ensures outcome { IfOk result (λ outcome. IsOutcome plan.kind plan.count outcome.rows outcome.levels outcome.sum) }
+    ensures outcome { IfOk result (λ outcome.
+        IsOutcome plan.kind plan.count outcome.rows outcome.levels outcome.sum) }
 {
     let mut steps = Steps::<L>::new(blank);
     let mut engine = Engine::new(alloc)?;

@@ -15,8 +15,8 @@ use palm_words::Settings;
 use std::sync::ledger::Ledger;
 use std::thread::Threads;
 
-/// Runs a batch of at most as many calls as the settings say, of which the first has the number n, and gives the replies in their
-/// order. `NoMemory` where memory was refused.
+/// Runs a batch of at most as many calls as the settings say, of which the first has the number n, and gives the
+/// replies in their order. `NoMemory` where memory was refused.
 pub fn answer_batch<R: Threads + Sync, G: Gate + Sync, L: Ledger>(
     rt: &R,
     settings: &Settings,
@@ -28,10 +28,14 @@ pub fn answer_batch<R: Threads + Sync, G: Gate + Sync, L: Ledger>(
 ) -> Result<Vec<Reply>, NoMemory>
     requires settings { AreWithin settings.now }
     requires within { length batch.now ≤ settings.now.batch }
-    ensures replies { IfOk result (λ replies. replies.items ≡ replies_to (rows_of (tree_in engine.old.tree)) batch.now) }
+    ensures replies { IfOk result (λ replies.
+        replies.items ≡ replies_to (rows_of (tree_in engine.old.tree)) batch.now) }
     ensures same { IfOk result (λ replies. length replies.items ≡ length batch.now) }
-    ensures tree { OnOk result (tree_in engine.new.tree ≡ batch_tree (tree_in engine.old.tree) (calls_of batch.now)) }
-    ensures rows { OnOk result (rows_of (tree_in engine.new.tree) ≡ table_after (rows_of (tree_in engine.old.tree)) batch.now) }
+    ensures tree { OnOk result
+        (tree_in engine.new.tree ≡ batch_tree (tree_in engine.old.tree) (calls_of batch.now)) }
+    ensures rows { OnOk result
+        (rows_of (tree_in engine.new.tree)
+        ≡ table_after (rows_of (tree_in engine.old.tree)) batch.now) }
     ensures lawful { IsLawful (tree_in engine.new.tree) }
     ensures ticks { steps.new ≤ steps.old + cost_on (tree_in engine.old.tree) batch.now }
 {

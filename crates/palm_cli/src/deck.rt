@@ -1,5 +1,6 @@
 // The mode `deck`: a deck is read, its edits are run, and the table that they leave is written as a deck.
-ghost use Rattle.std.specs.Prelude.{◌≡◌, ◌+◌, ◌≤◌, ◌⊎◌, [], length, IfOk, IfErr, OnOk, OnErr, IsErrOf};
+ghost use Rattle.std.specs.Prelude.{◌≡◌, ◌+◌, ◌≤◌, ◌⊎◌, [], length, IfOk, IfErr, OnOk, OnErr};
+ghost use Rattle.std.specs.Prelude.{IsErrOf};
 ghost use Rattle.std.specs.Io.KnownBytes.{Appends};
 ghost use Rattle.std.proofs.Common.{zero};
 ghost use Rattle.palm_base.specs.History.{table_after};
@@ -50,8 +51,10 @@ impl From<DeckFault> for Status {
 
 // Reads a deck whole, so that no edit runs of one that is bad in its last record. Its bytes are given back at once.
 fn read_edits<S: Source>(alloc: Global, src: &mut S) -> Result<Deck, Status>
-    ensures ok { IfOk result (IsEdits (S.left src.old) (S.left src.new) (S.faults src.old) (S.faults src.new)) }
-    ensures err { IfErr result (IsNoDeck (S.left src.old) (S.left src.new) (S.faults src.old) (S.faults src.new)) }
+    ensures ok { IfOk result
+        (IsEdits (S.left src.old) (S.left src.new) (S.faults src.old) (S.faults src.new)) }
+    ensures err { IfErr result
+        (IsNoDeck (S.left src.old) (S.left src.new) (S.faults src.old) (S.faults src.new)) }
 {
     let Ok(input) = read_input(alloc, src) else {
         return Err(Status::NoMemory);
@@ -74,9 +77,15 @@ fn run_edits<R: Threads + Sync, G: Gate + Sync, L: Ledger>(
 ) -> Result<(), NoMemory>
     requires settings { AreWithin settings.now }
     requires lawful { IsLawful (tree_in engine.old.tree) }
-    ensures tree { OnOk result (tree_in engine.new.tree ≡ tree_after (tree_in engine.old.tree) edits.now (cut_by settings.now.batch (length edits.now))) }
-    ensures rows { OnOk result (rows_of (tree_in engine.new.tree) ≡ table_after (rows_of (tree_in engine.old.tree)) edits.now) }
-    ensures ticks { OnOk result (steps.new ≤ steps.old + batches_cost (tree_in engine.old.tree) edits.now (cut_by settings.now.batch (length edits.now))) }
+    ensures tree { OnOk result
+        (tree_in engine.new.tree ≡ tree_after (tree_in engine.old.tree) edits.now
+        (cut_by settings.now.batch (length edits.now))) }
+    ensures rows { OnOk result
+        (rows_of (tree_in engine.new.tree)
+        ≡ table_after (rows_of (tree_in engine.old.tree)) edits.now) }
+    ensures ticks { OnOk result
+        (steps.new ≤ steps.old + batches_cost (tree_in engine.old.tree) edits.now
+        (cut_by settings.now.batch (length edits.now))) }
     ensures lawful { IsLawful (tree_in engine.new.tree) }
 {
     let most = settings.batch as usize;
@@ -93,8 +102,11 @@ fn run_edits<R: Threads + Sync, G: Gate + Sync, L: Ledger>(
 
 // Writes the table as a deck, which is offered whole.
 fn write_table<O: Sink>(alloc: Global, tree: &Tree, out: &mut O) -> Result<(), Stop>
-    ensures text { OnOk result (Appends (O.taken out.old) (O.taken out.new) (deck_text (rows_of (tree_in tree.now)))) }
-    ensures front { OnErr result (AppendsFront (O.taken out.old) (O.taken out.new) (deck_text (rows_of (tree_in tree.now)))) }
+    ensures text { OnOk result
+        (Appends (O.taken out.old) (O.taken out.new) (deck_text (rows_of (tree_in tree.now)))) }
+    ensures front { OnErr result
+        (AppendsFront (O.taken out.old) (O.taken out.new)
+        (deck_text (rows_of (tree_in tree.now)))) }
     ensures kept { OnOk result (O.faults out.new ≡ O.faults out.old) }
     ensures unfailed { IsErrOf result Stop.Memory → O.faults out.new ≡ O.faults out.old }
     ensures cause { IsErrOf result Stop.Write → Rose (O.faults out.old) (O.faults out.new) }
@@ -131,8 +143,8 @@ fn run_deck<R: Threads + Sync, O: Sink, G: Gate + Sync, L: Ledger>(
     write_table(alloc, &engine.tree, out)
 }
 
-/// Reads a deck, runs its edits on a new engine, and writes the table that they leave as a deck. Of a deck that isn't read whole,
-/// or that has a fault, nothing is run or written.
+/// Reads a deck, runs its edits on a new engine, and writes the table that they leave as a deck. Of a deck that
+/// isn't read whole, or that has a fault, nothing is run or written.
 pub fn deck<R: Threads + Sync, S: Source, O: Sink, G: Gate + Sync, L: Ledger>(
     rt: &R,
     alloc: Global,
@@ -145,9 +157,23 @@ pub fn deck<R: Threads + Sync, S: Source, O: Sink, G: Gate + Sync, L: Ledger>(
 ) -> Status
     requires settings { AreWithin settings.now }
     requires new { tree_in engine.old.tree ≡ (zero, []) }
-    ensures end { EndsIn Mode.Deck settings.now result (record { left = S.left src.old; rest = S.left src.new; taken = O.taken out.old; now = O.taken out.new; reads_before = S.faults src.old; reads_now = S.faults src.new; writes_before = O.faults out.old; writes_now = O.faults out.new; steps_before = steps.old; steps_now = steps.new }) (tree_in engine.new.tree) }
+    ensures end { EndsIn Mode.Deck settings.now result
+        (record {
+          left = S.left src.old;
+          rest = S.left src.new;
+          taken = O.taken out.old;
+          now = O.taken out.new;
+          reads_before = S.faults src.old;
+          reads_now = S.faults src.new;
+          writes_before = O.faults out.old;
+          writes_now = O.faults out.new;
+          steps_before = steps.old;
+          steps_now = steps.new;
+        })
+        (tree_in engine.new.tree) }
     ensures lawful { IsLawful (tree_in engine.new.tree) }
-    ensures untouched { (code_of result ≡ 4) ⊎ (code_of result ≡ 7) ⊎ (code_of result ≡ 8) → (out.new ≡ out.old) × (engine.new ≡ engine.old) × (steps.new ≡ steps.old) }
+    ensures untouched { (code_of result ≡ 4) ⊎ (code_of result ≡ 7) ⊎ (code_of result ≡ 8)
+        → (out.new ≡ out.old) × (engine.new ≡ engine.old) × (steps.new ≡ steps.old) }
 {
     let edits = match read_edits(alloc, src) {
         Ok(deck) => deck,

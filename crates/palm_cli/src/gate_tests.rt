@@ -10,8 +10,8 @@ use std::alloc::Global;
 use std::sync::atomic::{AtomicU64, Ordering};
 use std::test::Fail;
 
-// Counts the passes of workers and of the driver, and of the driver's those before which no worker has passed. It adds up the
-// numbers that the driver passes with.
+// Counts the passes of workers and of the driver, and of the driver's those before which no worker has passed. It
+// adds up the numbers that the driver passes with.
 #[derive(Drop)]
 struct Passes {
     workers: AtomicU64,

@@ -27,8 +27,8 @@ use std::alloc::Global;
 use std::sync::ledger::Ledger;
 use std::thread::Threads;
 
-// Runs the calls that the settings ask for, and counts their replies. Only one batch of them stands in memory, for which `batch`
-// is room.
+// Runs the calls that the settings ask for, and counts their replies. Only one batch of them stands in memory, for
+// which `batch` is room.
 fn run_calls<R: Threads + Sync, G: Gate + Sync, L: Ledger>(
     rt: &R,
     settings: &Settings,
@@ -40,9 +40,11 @@ fn run_calls<R: Threads + Sync, G: Gate + Sync, L: Ledger>(
     requires settings { AreWithin settings.now }
     requires new { tree_in engine.old.tree ≡ (zero, []) }
     ensures tally { IfOk result (λ tally. tally ≡ counts_of (history_said settings.now)) }
-    ensures tree { OnOk result (tree_in engine.new.tree ≡ tree_left settings.now.batch (history_said settings.now)) }
+    ensures tree { OnOk result
+        (tree_in engine.new.tree ≡ tree_left settings.now.batch (history_said settings.now)) }
     ensures rows { OnOk result (rows_of (tree_in engine.new.tree) ≡ table_left (history_said settings.now)) }
-    ensures ticks { OnOk result (steps.new ≤ steps.old + cost_left settings.now.batch (history_said settings.now)) }
+    ensures ticks { OnOk result
+        (steps.new ≤ steps.old + cost_left settings.now.batch (history_said settings.now)) }
     ensures lawful { IsLawful (tree_in engine.new.tree) }
 {
     laws::histories_join();
@@ -68,8 +70,12 @@ fn write_summary<O: Sink>(
     tree: &Tree,
     out: &mut O,
 ) -> Result<(), Stop>
-    ensures text { OnOk result (Appends (O.taken out.old) (O.taken out.new) (summary_by tally.now (rows_of (tree_in tree.now)) (tree_in tree.now))) }
-    ensures front { OnErr result (AppendsFront (O.taken out.old) (O.taken out.new) (summary_by tally.now (rows_of (tree_in tree.now)) (tree_in tree.now))) }
+    ensures text { OnOk result
+        (Appends (O.taken out.old) (O.taken out.new)
+        (summary_by tally.now (rows_of (tree_in tree.now)) (tree_in tree.now))) }
+    ensures front { OnErr result
+        (AppendsFront (O.taken out.old) (O.taken out.new)
+        (summary_by tally.now (rows_of (tree_in tree.now)) (tree_in tree.now))) }
     ensures kept { OnOk result (O.faults out.new ≡ O.faults out.old) }
     ensures unfailed { IsErrOf result Stop.Memory → O.faults out.new ≡ O.faults out.old }
     ensures cause { IsErrOf result Stop.Write → Rose (O.faults out.old) (O.faults out.new) }
@@ -93,9 +99,12 @@ fn run_summary<R: Threads + Sync, O: Sink, G: Gate + Sync, L: Ledger>(
     requires settings { AreWithin settings.now }
     requires new { tree_in engine.old.tree ≡ (zero, []) }
     ensures text { OnOk result (Appends (O.taken out.old) (O.taken out.new) (summary_said settings.now)) }
-    ensures front { OnErr result (AppendsFront (O.taken out.old) (O.taken out.new) (summary_said settings.now)) }
-    ensures tree { OnOk result (tree_in engine.new.tree ≡ tree_left settings.now.batch (history_said settings.now)) }
-    ensures ticks { OnOk result (steps.new ≤ steps.old + cost_left settings.now.batch (history_said settings.now)) }
+    ensures front { OnErr result
+        (AppendsFront (O.taken out.old) (O.taken out.new) (summary_said settings.now)) }
+    ensures tree { OnOk result
+        (tree_in engine.new.tree ≡ tree_left settings.now.batch (history_said settings.now)) }
+    ensures ticks { OnOk result
+        (steps.new ≤ steps.old + cost_left settings.now.batch (history_said settings.now)) }
     ensures lawful { IsLawful (tree_in engine.new.tree) }
     ensures kept { OnOk result (O.faults out.new ≡ O.faults out.old) }
     ensures unfailed { IsErrOf result Stop.Memory → O.faults out.new ≡ O.faults out.old }
@@ -106,9 +115,9 @@ fn run_summary<R: Threads + Sync, O: Sink, G: Gate + Sync, L: Ledger>(
     write_summary(alloc, &tally, &engine.tree, out)
 }
 
-/// Runs generated calls on a new engine, and writes a summary of them: how many calls there were, the rows of the table and the
-/// levels of the tree that they leave, how many numbers were rated, and the sum of the rates that were answered. What a source
-/// has left, and how often it failed, stays as it is.
+/// Runs generated calls on a new engine, and writes a summary of them: how many calls there were, the rows of the
+/// table and the levels of the tree that they leave, how many numbers were rated, and the sum of the rates that
+/// were answered. What a source has left, and how often it failed, stays as it is.
 pub fn generate<R: Threads + Sync, O: Sink, G: Gate + Sync, L: Ledger>(
     rt: &R,
     alloc: Global,
@@ -120,7 +129,21 @@ pub fn generate<R: Threads + Sync, O: Sink, G: Gate + Sync, L: Ledger>(
 ) -> Status
     requires settings { AreWithin settings.now }
     requires new { tree_in engine.old.tree ≡ (zero, []) }
-    ensures end { (left : Option (List ℕ)) → (reads : ℕ) → EndsIn Mode.Gen settings.now result (record { left = left; rest = left; taken = O.taken out.old; now = O.taken out.new; reads_before = reads; reads_now = reads; writes_before = O.faults out.old; writes_now = O.faults out.new; steps_before = steps.old; steps_now = steps.new }) (tree_in engine.new.tree) }
+    ensures end { (left : Option (List ℕ)) → (reads : ℕ)
+        → EndsIn Mode.Gen settings.now result
+        (record {
+          left = left;
+          rest = left;
+          taken = O.taken out.old;
+          now = O.taken out.new;
+          reads_before = reads;
+          reads_now = reads;
+          writes_before = O.faults out.old;
+          writes_now = O.faults out.new;
+          steps_before = steps.old;
+          steps_now = steps.new;
+        })
+        (tree_in engine.new.tree) }
     ensures lawful { IsLawful (tree_in engine.new.tree) }
 {
     match run_summary(rt, alloc, settings, engine, out, gate, steps) {

@@ -1,5 +1,5 @@
-//! The program `palm`: keeps a rating table, and replays scripts of calls on it, edits it by decks and measures it by generated
-//! calls.
+//! The program `palm`: keeps a rating table, and replays scripts of calls on it, edits it by decks and measures it
+//! by generated calls.
 #![tactic(auto)]
 
 mod batch;

@@ -49,10 +49,12 @@ fn end_by(fault: Option<LineFault>, end: InputEnd) -> Status
 
 // Reads a script. Its bytes are given back at once, since what they say is all that is run.
 fn read_lines<S: Source>(alloc: Global, src: &mut S) -> Result<ReadScript, NoMemory>
-    ensures ok { IfOk result (IsScript (S.left src.old) (S.left src.new) (S.faults src.old) (S.faults src.new)) }
+    ensures ok { IfOk result
+        (IsScript (S.left src.old) (S.left src.new) (S.faults src.old) (S.faults src.new)) }
     ensures err { OnErr result (IsReadFrom (S.left src.old) (S.left src.new)) }
     ensures few { IfOk result (λ read. length read.script.entries.items ≤ MOST_BYTES) }
-    ensures within { IfOk result (λ read. sum_by (λ end. end.calls) read.script.ends.items ≤ length read.script.entries.items) }
+    ensures within { IfOk result (λ read.
+        sum_by (λ end. end.calls) read.script.ends.items ≤ length read.script.entries.items) }
 {
     let input = read_input(alloc, src)?;
     let script = read_script(alloc, &input.bytes, input.end.is_whole())?;
@@ -76,10 +78,23 @@ fn run_script<R: Threads + Sync, O: Sink, G: Gate + Sync, L: Ledger>(
     requires new { tree_in engine.old.tree ≡ (zero, []) }
     requires few { length script.now.entries.items ≤ MOST_BYTES }
     requires within { sum_by (λ end. end.calls) script.now.ends.items ≤ length script.now.entries.items }
-    ensures text { OnOk result (Appends (O.taken out.old) (O.taken out.new) (text_to settings.now.dump finished (sections_by settings.now.batch script.now.entries.items script.now.ends.items))) }
-    ensures front { OnErr result (AppendsFront (O.taken out.old) (O.taken out.new) (text_to settings.now.dump finished (sections_by settings.now.batch script.now.entries.items script.now.ends.items))) }
-    ensures tree { OnOk result (tree_in engine.new.tree ≡ (after_run (sections_by settings.now.batch script.now.entries.items script.now.ends.items)).tree) }
-    ensures ticks { OnOk result (steps.new ≤ steps.old + run_cost (sections_by settings.now.batch script.now.entries.items script.now.ends.items)) }
+    ensures text { OnOk result
+        (Appends (O.taken out.old) (O.taken out.new)
+        (text_to settings.now.dump finished
+        (sections_by settings.now.batch script.now.entries.items
+        script.now.ends.items))) }
+    ensures front { OnErr result
+        (AppendsFront (O.taken out.old) (O.taken out.new)
+        (text_to settings.now.dump finished
+        (sections_by settings.now.batch script.now.entries.items
+        script.now.ends.items))) }
+    ensures tree { OnOk result
+        (tree_in engine.new.tree
+        ≡ (after_run (sections_by settings.now.batch script.now.entries.items
+        script.now.ends.items)).tree) }
+    ensures ticks { OnOk result
+        (steps.new ≤ steps.old + run_cost
+        (sections_by settings.now.batch script.now.entries.items script.now.ends.items)) }
     ensures lawful { IsLawful (tree_in engine.new.tree) }
     ensures kept { OnOk result (O.faults out.new ≡ O.faults out.old) }
     ensures unfailed { IsErrOf result Stop.Memory → O.faults out.new ≡ O.faults out.old }
@@ -117,7 +132,20 @@ pub fn replay<R: Threads + Sync, S: Source, O: Sink, G: Gate + Sync, L: Ledger>(
 ) -> Status
     requires settings { AreWithin settings.now }
     requires new { tree_in engine.old.tree ≡ (zero, []) }
-    ensures end { EndsIn Mode.Replay settings.now result (record { left = S.left src.old; rest = S.left src.new; taken = O.taken out.old; now = O.taken out.new; reads_before = S.faults src.old; reads_now = S.faults src.new; writes_before = O.faults out.old; writes_now = O.faults out.new; steps_before = steps.old; steps_now = steps.new }) (tree_in engine.new.tree) }
+    ensures end { EndsIn Mode.Replay settings.now result
+        (record {
+          left = S.left src.old;
+          rest = S.left src.new;
+          taken = O.taken out.old;
+          now = O.taken out.new;
+          reads_before = S.faults src.old;
+          reads_now = S.faults src.new;
+          writes_before = O.faults out.old;
+          writes_now = O.faults out.new;
+          steps_before = steps.old;
+          steps_now = steps.new;
+        })
+        (tree_in engine.new.tree) }
     ensures lawful { IsLawful (tree_in engine.new.tree) }
 {
     laws::faults_stand();

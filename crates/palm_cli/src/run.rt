@@ -8,7 +8,9 @@ ghost use Rattle.palm_base.specs.Tree.{rows_of};
 ghost use Rattle.palm_tree.specs.TreeValue.{tree_in};
 ghost use Rattle.palm_batch.specs.Costs.{cost_on};
 ghost use Rattle.palm_script.specs.Causes.{Rose};
-ghost use Rattle.palm_script.specs.Transcript.{reply_lines, come_to, dump_text, batch_text, batches_text, section_text, sections_text, ending, cut_by, section_by, sections_by, after_section, after_sections};
+ghost use Rattle.palm_script.specs.Transcript.{reply_lines, come_to, dump_text, batch_text, batches_text};
+ghost use Rattle.palm_script.specs.Transcript.{section_text, sections_text, ending, cut_by, section_by};
+ghost use Rattle.palm_script.specs.Transcript.{sections_by, after_section, after_sections};
 ghost use Rattle.palm_words.specs.Settings.{AreWithin};
 ghost use Rattle.palm_cli.specs.Costs.{batches_cost, sections_cost};
 ghost use Rattle.palm_cli.specs.Streams.{AppendsFront};
@@ -65,9 +67,14 @@ fn replay_batch<R: Threads + Sync, G: Gate + Sync, L: Ledger>(
     requires settings { AreWithin settings.now }
     requires within { length batch.now ≤ settings.now.batch }
     requires fits { n + length batch.now ≤ MOST_BYTES }
-    ensures text { OnOk result (text.new.items ≡ text.old.items ++ batch_text settings.now.dump (come_to n (tree_in engine.old.tree)) batch.now) }
-    ensures tree { OnOk result (tree_in engine.new.tree ≡ batch_tree (tree_in engine.old.tree) (calls_of batch.now)) }
-    ensures rows { OnOk result (rows_of (tree_in engine.new.tree) ≡ table_after (rows_of (tree_in engine.old.tree)) batch.now) }
+    ensures text { OnOk result
+        (text.new.items ≡ text.old.items ++ batch_text settings.now.dump
+        (come_to n (tree_in engine.old.tree)) batch.now) }
+    ensures tree { OnOk result
+        (tree_in engine.new.tree ≡ batch_tree (tree_in engine.old.tree) (calls_of batch.now)) }
+    ensures rows { OnOk result
+        (rows_of (tree_in engine.new.tree)
+        ≡ table_after (rows_of (tree_in engine.old.tree)) batch.now) }
     ensures lawful { IsLawful (tree_in engine.new.tree) }
     ensures ticks { OnOk result (steps.new ≤ steps.old + cost_on (tree_in engine.old.tree) batch.now) }
 {
@@ -92,10 +99,17 @@ fn write_batch<R: Threads + Sync, O: Sink, G: Gate + Sync, L: Ledger>(
     requires settings { AreWithin settings.now }
     requires within { length batch.now ≤ settings.now.batch }
     requires fits { n + length batch.now ≤ MOST_BYTES }
-    ensures text { OnOk result (Appends (O.taken out.old) (O.taken out.new) (batch_text settings.now.dump (come_to n (tree_in engine.old.tree)) batch.now)) }
-    ensures front { OnErr result (AppendsFront (O.taken out.old) (O.taken out.new) (batch_text settings.now.dump (come_to n (tree_in engine.old.tree)) batch.now)) }
-    ensures tree { OnOk result (tree_in engine.new.tree ≡ batch_tree (tree_in engine.old.tree) (calls_of batch.now)) }
-    ensures rows { OnOk result (rows_of (tree_in engine.new.tree) ≡ table_after (rows_of (tree_in engine.old.tree)) batch.now) }
+    ensures text { OnOk result
+        (Appends (O.taken out.old) (O.taken out.new)
+        (batch_text settings.now.dump (come_to n (tree_in engine.old.tree)) batch.now)) }
+    ensures front { OnErr result
+        (AppendsFront (O.taken out.old) (O.taken out.new)
+        (batch_text settings.now.dump (come_to n (tree_in engine.old.tree)) batch.now)) }
+    ensures tree { OnOk result
+        (tree_in engine.new.tree ≡ batch_tree (tree_in engine.old.tree) (calls_of batch.now)) }
+    ensures rows { OnOk result
+        (rows_of (tree_in engine.new.tree)
+        ≡ table_after (rows_of (tree_in engine.old.tree)) batch.now) }
     ensures ticks { OnOk result (steps.new ≤ steps.old + cost_on (tree_in engine.old.tree) batch.now) }
     ensures lawful { IsLawful (tree_in engine.new.tree) }
     ensures kept { OnOk result (O.faults out.new ≡ O.faults out.old) }
@@ -108,8 +122,8 @@ fn write_batch<R: Threads + Sync, O: Sink, G: Gate + Sync, L: Ledger>(
     Ok(())
 }
 
-// Runs calls in batches, of which the first call has the number n, and offers the sink the text of each batch whole. `text`
-// is room for it.
+// Runs calls in batches, of which the first call has the number n, and offers the sink the text of each batch
+// whole. `text` is room for it.
 fn run_batches<R: Threads + Sync, O: Sink, G: Gate + Sync, L: Ledger>(
     rt: &R,
     settings: &Settings,
@@ -124,11 +138,23 @@ fn run_batches<R: Threads + Sync, O: Sink, G: Gate + Sync, L: Ledger>(
     requires settings { AreWithin settings.now }
     requires fits { n + length calls.now ≤ MOST_BYTES }
     requires lawful { IsLawful (tree_in engine.old.tree) }
-    ensures text { OnOk result (Appends (O.taken out.old) (O.taken out.new) (batches_text settings.now.dump (come_to n (tree_in engine.old.tree)) calls.now (cut_by settings.now.batch (length calls.now)))) }
-    ensures front { OnErr result (AppendsFront (O.taken out.old) (O.taken out.new) (batches_text settings.now.dump (come_to n (tree_in engine.old.tree)) calls.now (cut_by settings.now.batch (length calls.now)))) }
-    ensures tree { OnOk result (tree_in engine.new.tree ≡ tree_after (tree_in engine.old.tree) calls.now (cut_by settings.now.batch (length calls.now))) }
-    ensures rows { OnOk result (rows_of (tree_in engine.new.tree) ≡ table_after (rows_of (tree_in engine.old.tree)) calls.now) }
-    ensures ticks { OnOk result (steps.new ≤ steps.old + batches_cost (tree_in engine.old.tree) calls.now (cut_by settings.now.batch (length calls.now))) }
+    ensures text { OnOk result
+        (Appends (O.taken out.old) (O.taken out.new)
+        (batches_text settings.now.dump (come_to n (tree_in engine.old.tree)) calls.now
+        (cut_by settings.now.batch (length calls.now)))) }
+    ensures front { OnErr result
+        (AppendsFront (O.taken out.old) (O.taken out.new)
+        (batches_text settings.now.dump (come_to n (tree_in engine.old.tree)) calls.now
+        (cut_by settings.now.batch (length calls.now)))) }
+    ensures tree { OnOk result
+        (tree_in engine.new.tree ≡ tree_after (tree_in engine.old.tree) calls.now
+        (cut_by settings.now.batch (length calls.now))) }
+    ensures rows { OnOk result
+        (rows_of (tree_in engine.new.tree)
+        ≡ table_after (rows_of (tree_in engine.old.tree)) calls.now) }
+    ensures ticks { OnOk result
+        (steps.new ≤ steps.old + batches_cost (tree_in engine.old.tree) calls.now
+        (cut_by settings.now.batch (length calls.now))) }
     ensures lawful { IsLawful (tree_in engine.new.tree) }
     ensures kept { OnOk result (O.faults out.new ≡ O.faults out.old) }
     ensures unfailed { IsErrOf result Stop.Memory → O.faults out.new ≡ O.faults out.old }
@@ -162,10 +188,21 @@ fn run_section<R: Threads + Sync, O: Sink, G: Gate + Sync, L: Ledger>(
     requires settings { AreWithin settings.now }
     requires fits { n + length calls.now ≤ MOST_BYTES }
     requires lawful { IsLawful (tree_in engine.old.tree) }
-    ensures text { OnOk result (Appends (O.taken out.old) (O.taken out.new) (section_text settings.now.dump (come_to n (tree_in engine.old.tree)) (section_by settings.now.batch calls.now dumps))) }
-    ensures front { OnErr result (AppendsFront (O.taken out.old) (O.taken out.new) (section_text settings.now.dump (come_to n (tree_in engine.old.tree)) (section_by settings.now.batch calls.now dumps))) }
-    ensures after { OnOk result (after_section (come_to n (tree_in engine.old.tree)) (section_by settings.now.batch calls.now dumps) ≡ come_to (n + length calls.now) (tree_in engine.new.tree)) }
-    ensures ticks { OnOk result (steps.new ≤ steps.old + batches_cost (tree_in engine.old.tree) calls.now (cut_by settings.now.batch (length calls.now))) }
+    ensures text { OnOk result
+        (Appends (O.taken out.old) (O.taken out.new)
+        (section_text settings.now.dump (come_to n (tree_in engine.old.tree))
+        (section_by settings.now.batch calls.now dumps))) }
+    ensures front { OnErr result
+        (AppendsFront (O.taken out.old) (O.taken out.new)
+        (section_text settings.now.dump (come_to n (tree_in engine.old.tree))
+        (section_by settings.now.batch calls.now dumps))) }
+    ensures after { OnOk result
+        (after_section (come_to n (tree_in engine.old.tree))
+        (section_by settings.now.batch calls.now dumps)
+        ≡ come_to (n + length calls.now) (tree_in engine.new.tree)) }
+    ensures ticks { OnOk result
+        (steps.new ≤ steps.old + batches_cost (tree_in engine.old.tree) calls.now
+        (cut_by settings.now.batch (length calls.now))) }
     ensures lawful { IsLawful (tree_in engine.new.tree) }
     ensures kept { OnOk result (O.faults out.new ≡ O.faults out.old) }
     ensures unfailed { IsErrOf result Stop.Memory → O.faults out.new ≡ O.faults out.old }
@@ -178,11 +215,11 @@ fn run_section<R: Threads + Sync, O: Sink, G: Gate + Sync, L: Ledger>(
     Ok(())
 }
 
-/// Runs the sections of a script on an engine: the calls of each in batches of as many as the settings say. It offers the sink
-/// the text of each batch whole, and each dump that a line asks for. `text` is room for these.
+/// Runs the sections of a script on an engine: the calls of each in batches of as many as the settings say. It
+/// offers the sink the text of each batch whole, and each dump that a line asks for. `text` is room for these.
 ///
-/// `Memory` where memory is refused, and `Write` only where the sink's count of faults rose. The sink has then taken a front
-/// of the transcript. The engine's tree is lawful in any case.
+/// `Memory` where memory is refused, and `Write` only where the sink's count of faults rose. The sink has then
+/// taken a front of the transcript. The engine's tree is lawful in any case.
 pub fn run_sections<R: Threads + Sync, O: Sink, G: Gate + Sync, L: Ledger>(
     rt: &R,
     settings: &Settings,
@@ -198,10 +235,21 @@ pub fn run_sections<R: Threads + Sync, O: Sink, G: Gate + Sync, L: Ledger>(
     requires few { length entries.now ≤ MOST_BYTES }
     requires within { sum_by (λ end. end.calls) ends.now ≤ length entries.now }
     requires lawful { IsLawful (tree_in engine.old.tree) }
-    ensures text { OnOk result (Appends (O.taken out.old) (O.taken out.new) (sections_text settings.now.dump (come_to 0 (tree_in engine.old.tree)) (sections_by settings.now.batch entries.now ends.now))) }
-    ensures front { OnErr result (AppendsFront (O.taken out.old) (O.taken out.new) (sections_text settings.now.dump (come_to 0 (tree_in engine.old.tree)) (sections_by settings.now.batch entries.now ends.now))) }
-    ensures after { OnOk result (after_sections (come_to 0 (tree_in engine.old.tree)) (sections_by settings.now.batch entries.now ends.now) ≡ come_to (length entries.now) (tree_in engine.new.tree)) }
-    ensures ticks { OnOk result (steps.new ≤ steps.old + sections_cost (tree_in engine.old.tree) (sections_by settings.now.batch entries.now ends.now)) }
+    ensures text { OnOk result
+        (Appends (O.taken out.old) (O.taken out.new)
+        (sections_text settings.now.dump (come_to 0 (tree_in engine.old.tree))
+        (sections_by settings.now.batch entries.now ends.now))) }
+    ensures front { OnErr result
+        (AppendsFront (O.taken out.old) (O.taken out.new)
+        (sections_text settings.now.dump (come_to 0 (tree_in engine.old.tree))
+        (sections_by settings.now.batch entries.now ends.now))) }
+    ensures after { OnOk result
+        (after_sections (come_to 0 (tree_in engine.old.tree))
+        (sections_by settings.now.batch entries.now ends.now)
+        ≡ come_to (length entries.now) (tree_in engine.new.tree)) }
+    ensures ticks { OnOk result
+        (steps.new ≤ steps.old + sections_cost (tree_in engine.old.tree)
+        (sections_by settings.now.batch entries.now ends.now)) }
     ensures lawful { IsLawful (tree_in engine.new.tree) }
     ensures kept { OnOk result (O.faults out.new ≡ O.faults out.old) }
     ensures unfailed { IsErrOf result Stop.Memory → O.faults out.new ≡ O.faults out.old }
@@ -220,11 +268,11 @@ pub fn run_sections<R: Threads + Sync, O: Sink, G: Gate + Sync, L: Ledger>(
     run_section(rt, settings, n, engine, rest, false, out, gate, steps, text)
 }
 
-/// Writes what stands at the end of a transcript: the tree, where the settings say so, and the last line. They are offered as
-/// one text, for which `text` is room.
+/// Writes what stands at the end of a transcript: the tree, where the settings say so, and the last line. They are
+/// offered as one text, for which `text` is room.
 ///
-/// `Memory` where memory is refused, and `Write` only where the sink's count of faults rose. The sink has then taken a front of
-/// that text.
+/// `Memory` where memory is refused, and `Write` only where the sink's count of faults rose. The sink has then
+/// taken a front of that text.
 pub fn write_ending<O: Sink>(
     settings: &Settings,
     calls: u64,
@@ -232,8 +280,12 @@ pub fn write_ending<O: Sink>(
     out: &mut O,
     text: &mut Vec<u8>,
 ) -> Result<(), Stop>
-    ensures text { OnOk result (Appends (O.taken out.old) (O.taken out.new) (ending settings.now.dump (come_to calls (tree_in tree.now)))) }
-    ensures front { OnErr result (AppendsFront (O.taken out.old) (O.taken out.new) (ending settings.now.dump (come_to calls (tree_in tree.now)))) }
+    ensures text { OnOk result
+        (Appends (O.taken out.old) (O.taken out.new)
+        (ending settings.now.dump (come_to calls (tree_in tree.now)))) }
+    ensures front { OnErr result
+        (AppendsFront (O.taken out.old) (O.taken out.new)
+        (ending settings.now.dump (come_to calls (tree_in tree.now)))) }
     ensures kept { OnOk result (O.faults out.new ≡ O.faults out.old) }
     ensures unfailed { IsErrOf result Stop.Memory → O.faults out.new ≡ O.faults out.old }
     ensures cause { IsErrOf result Stop.Write → Rose (O.faults out.old) (O.faults out.new) }

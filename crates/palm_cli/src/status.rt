@@ -84,7 +84,8 @@ fn tell_made<E: Sink>(err: &mut E, line: Result<String, NoMemory>, status: Statu
     requires names { names_fault status ≡ true }
     requires line { IfOk line (λ line. string_bytes line ≡ status_text status) }
     ensures same { (result ≡ status) ⊎ ((result ≡ Status.NoMemory) × (names_fault status ≡ true)) }
-    ensures told { Told (E.taken err.old) (E.taken err.new) (E.faults err.old) (E.faults err.new) (status_text result) }
+    ensures told { Told (E.taken err.old) (E.taken err.new) (E.faults err.old) (E.faults err.new)
+        (status_text result) }
 {
     let Ok(line) = line else {
         tell_line(err, b"palm: no memory\n");
@@ -94,12 +95,13 @@ fn tell_made<E: Sink>(err: &mut E, line: Result<String, NoMemory>, status: Statu
     status
 }
 
-/// Tells the error stream how a run ended, and answers how it did. Of a run that went well it tells nothing. Where memory is
-/// refused for the line of a fault, the run ends for want of memory.
+/// Tells the error stream how a run ended, and answers how it did. Of a run that went well it tells nothing. Where
+/// memory is refused for the line of a fault, the run ends for want of memory.
 pub fn tell<E: Sink>(alloc: Global, err: &mut E, status: Status) -> Status
     ensures same { (result ≡ status) ⊎ ((result ≡ Status.NoMemory) × (names_fault status ≡ true)) }
     ensures quiet { result ≡ Status.Done → err.new ≡ err.old }
-    ensures told { Told (E.taken err.old) (E.taken err.new) (E.faults err.old) (E.faults err.new) (status_text result) }
+    ensures told { Told (E.taken err.old) (E.taken err.new) (E.faults err.old) (E.faults err.new)
+        (status_text result) }
 {
     match status {
         Status::Done => {}

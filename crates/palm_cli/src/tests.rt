@@ -45,7 +45,8 @@ pub fn run<R: Threads + Sync, S: Source, O: Sink, E: Sink>(
     start::<R, S, O, E, Brand>(rt, alloc, words, src, out, err, Blank::new(1))
 }
 
-// Runs the program on an input that is read and written without a fault, and compares the status, what is written and what is told.
+// Runs the program on an input that is read and written without a fault, and compares the status, what is written
+// and what is told.
 pub fn ends_as<R: Threads + Sync + Abort>(
     rt: &R,
     alloc: Global,
@@ -188,8 +189,8 @@ fn cuts_and_dumps(rt: HostRuntime) -> Result<(), Fail> {
     Ok(())
 }
 
-// A write takes all that it is offered, so that each text is one write: that of a batch, a dump that a line asks for, another
-// batch, and what stands at the end. A fifth write, which would fail, isn't made.
+// A write takes all that it is offered, so that each text is one write: that of a batch, a dump that a line asks
+// for, another batch, and what stands at the end. A fifth write, which would fail, isn't made.
 #[test]
 fn texts_are_offered_whole(rt: HostRuntime) -> Result<(), Fail> {
     let alloc = rt.alloc();

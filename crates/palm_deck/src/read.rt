@@ -1,11 +1,13 @@
 // Reading a deck: record by record, so that one record stands in memory beside the entries.
-ghost use Rattle.std.specs.Prelude.{◌≡◌, ◌≢◌, ◌+◌, ◌∷◌, [], if◌then◌else◌, true, length, Some, Ok, Err, MatchOption, OnOk, IfOk, IfErr};
+ghost use Rattle.std.specs.Prelude.{◌≡◌, ◌≢◌, ◌+◌, ◌∷◌, [], if◌then◌else◌, true};
+ghost use Rattle.std.specs.Prelude.{length, Some, Ok, Err, MatchOption, OnOk, IfOk, IfErr};
 ghost use Rattle.csv.specs.Reading.{ReadRecord, Ready, reader_trim, took_first};
 ghost use Rattle.csv.specs.Records.{fields_of};
 ghost use Rattle.csv.specs.declared.reader.Trim.TheVariants as trims;
 ghost use Rattle.palm_base.specs.Numbers.{value_of, is_rate};
 ghost use Rattle.palm_base.specs.Prefix.{digits_in, is_dialled};
-ghost use Rattle.palm_deck.specs.Deck.{without_mark as without, is_header as says_header, set_in, del_in, call_in, call_by, call_at, deck_of, IsNext};
+ghost use Rattle.palm_deck.specs.Deck.{without_mark as without, is_header as says_header, set_in, del_in, call_in};
+ghost use Rattle.palm_deck.specs.Deck.{call_by, call_at, deck_of, IsNext};
 
 use crate::deck::{Deck, DeckFault, DeckWhy};
 use csv::{ByteRecord, Reader, ReaderBuilder};
@@ -32,7 +34,8 @@ fn without_mark(bytes: &[u8]) -> &[u8]
 // The fields of a record that has three.
 #[tactic(auto, using(crate::proofs::Fields::no_field, crate::proofs::Fields::three))]
 fn three_fields(fields: &ByteRecord) -> Option<(&[u8], &[u8], &[u8])>
-    ensures { MatchOption result (length (fields_of fields.now) ≢ 3) (λ x. fields_of fields.now ≡ x.0.now ∷ x.1.now ∷ x.2.now ∷ []) }
+    ensures { MatchOption result (length (fields_of fields.now) ≢ 3) (λ x.
+        fields_of fields.now ≡ x.0.now ∷ x.1.now ∷ x.2.now ∷ []) }
 {
     if fields.len() != 3 {
         return None;
@@ -116,7 +119,9 @@ fn read_call(row: u64, fields: &ByteRecord) -> Result<Call, DeckFault>
 // Adds the edit of a record to those of the records before it. The header is record 1, and the first edit's record 2.
 fn add_edit(entries: &mut Vec<Entry>, fields: &ByteRecord) -> Result<(), DeckFault>
     ensures ok { OnOk result (IsNext (fields_of fields.now) entries.old.items entries.new.items) }
-    ensures err { IfErr result (λ fault. fault ≢ DeckFault.NoMemory → call_at (length entries.old.items + 2) (fields_of fields.now) ≡ Err fault) }
+    ensures err { IfErr result (λ fault.
+        fault ≢ DeckFault.NoMemory
+        → call_at (length entries.old.items + 2) (fields_of fields.now) ≡ Err fault) }
 {
     let place = entries.len() as u64;
     let call = read_call(place + 2, fields)?;
@@ -128,10 +133,12 @@ fn add_edit(entries: &mut Vec<Entry>, fields: &ByteRecord) -> Result<(), DeckFau
     Ok(())
 }
 
-// Reads the next record into `fields`, where there is one. The reader's bytes stand in memory, so that it has no error but
-// refused memory.
+// Reads the next record into `fields`, where there is one. The reader's bytes stand in memory, so that it has no
+// error but refused memory.
 fn read_record(reader: &mut Reader<&[u8]>, fields: &mut ByteRecord) -> Result<bool, DeckFault>
-    ensures read { IfOk result (λ found. (reader_trim reader.old ≡ trims.None) → Ready reader.old → ReadRecord (λ s. Some s.now) reader.old reader.new found (fields_of fields.new)) }
+    ensures read { IfOk result (λ found.
+        (reader_trim reader.old ≡ trims.None) → Ready reader.old
+        → ReadRecord (λ s. Some s.now) reader.old reader.new found (fields_of fields.new)) }
     ensures first { (reader_trim reader.old ≡ trims.None) → OnOk result (took_first reader.new ≡ true) }
     ensures err { IfErr result (λ fault. fault ≡ DeckFault.NoMemory) }
 {

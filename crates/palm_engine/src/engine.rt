@@ -36,8 +36,8 @@ impl Engine {
         })
     }
 
-    /// Runs the first `max` entries of a roll as one batch, or all where they are fewer, with so many workers, and gives the
-    /// replies in their order. The rest of the roll is left to further calls.
+    /// Runs the first `max` entries of a roll as one batch, or all where they are fewer, with so many workers, and
+    /// gives the replies in their order. The rest of the roll is left to further calls.
     ///
     /// `NoMemory` where room was refused. The tree is then as before, node for node and id for id.
     pub fn run_list<R: Threads + Sync, G: Gate + Sync, L: Ledger>(
@@ -53,9 +53,14 @@ impl Engine {
         requires most { max ≤ MOST_CALLS }
         requires some { 1 ≤ workers }
         requires few { workers ≤ MOST_WORKERS }
-        ensures tree { OnOk result (tree_in self.new.tree ≡ batch_tree (tree_in self.old.tree) (calls_of (take max roll.now))) }
-        ensures replies { IfOk result (λ replies. replies.items ≡ replies_to (rows_of (tree_in self.old.tree)) (take max roll.now)) }
-        ensures rows { OnOk result (rows_of (tree_in self.new.tree) ≡ table_after (rows_of (tree_in self.old.tree)) (take max roll.now)) }
+        ensures tree { OnOk result
+            (tree_in self.new.tree ≡ batch_tree (tree_in self.old.tree)
+            (calls_of (take max roll.now))) }
+        ensures replies { IfOk result (λ replies.
+            replies.items ≡ replies_to (rows_of (tree_in self.old.tree)) (take max roll.now)) }
+        ensures rows { OnOk result
+            (rows_of (tree_in self.new.tree)
+            ≡ table_after (rows_of (tree_in self.old.tree)) (take max roll.now)) }
         ensures lawful { IsLawful (tree_in self.new.tree) }
         ensures err_nodes { OnErr result (self.new.tree.places ≡ self.old.tree.places) }
         ensures err_shape { OnErr result (self.new.tree.shape ≡ self.old.tree.shape) }

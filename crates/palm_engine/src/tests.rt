@@ -145,7 +145,8 @@ fn append_numbers(from: u64, to: u64, text: &mut Vec<u8>) -> Result<(), NoMemory
     Ok(())
 }
 
-// The text of a shape: the lines above its leaves, and of each leaf the begin of its line and the numbers whose rows follow.
+// The text of a shape: the lines above its leaves, and of each leaf the begin of its line and the numbers whose
+// rows follow.
 fn shape_text(
     alloc: Global,
     upper: &str,
@@ -270,7 +271,8 @@ fn shapes_go_by_the_cutting(rt: HostRuntime) -> Result<(), Fail> {
     Ok(())
 }
 
-// Runs the front of five calls with a counter of its own, and gives the number of its replies and the shape that it leaves.
+// Runs the front of five calls with a counter of its own, and gives the number of its replies and the shape that it
+// leaves.
 fn front_with<R: Threads + Sync + Abort, L: Ledger>(
     rt: &R,
     alloc: Global,
@@ -299,7 +301,8 @@ fn a_batch_is_the_front_of_the_roll(rt: HostRuntime) -> Result<(), Fail> {
     Ok(())
 }
 
-// Runs a roll as one batch. Where memory is refused it says so, the shape is that of before, and the batch is run once more.
+// Runs a roll as one batch. Where memory is refused it says so, the shape is that of before, and the batch is run
+// once more.
 fn run_in_spite<R: Threads + Sync + Abort + Print, L: Ledger>(
     rt: &R,
     alloc: Global,
@@ -337,8 +340,8 @@ fn grown_and_felled<R: Threads + Sync + Abort + Print, L: Ledger>(
     Ok((grown, shape_of(alloc, &engine)?))
 }
 
-// Where no memory is refused, this tells only what both batches leave. tools/refuse_allocations runs it with each allocation
-// refused in turn.
+// Where no memory is refused, this tells only what both batches leave. tools/refuse_allocations runs it with each
+// allocation refused in turn.
 #[test]
 fn a_refused_batch_leaves_the_shape_of_before(rt: HostRuntime) -> Result<(), Fail> {
     let alloc = rt.alloc();

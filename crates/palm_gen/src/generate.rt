@@ -1,8 +1,10 @@
 // Calls drawn from a state: a linear congruential generator of 64 bits, of whose states the upper halves are used.
-ghost use Rattle.std.specs.Prelude.{◌≡◌, ◌≤◌, ◌<◌, ◌+◌, ◌^◌, ◌++◌, length, take, drop, replicate, OnOk, OnErr, IfOk};
+ghost use Rattle.std.specs.Prelude.{◌≡◌, ◌≤◌, ◌<◌, ◌+◌, ◌^◌, ◌++◌, length, take, drop};
+ghost use Rattle.std.specs.Prelude.{replicate, OnOk, OnErr, IfOk};
 ghost use Rattle.palm_base.specs.Text.{digits_text};
 ghost use Rattle.palm_base.specs.declared.digits.TheConstants.{MOST_DIGITS};
-ghost use Rattle.palm_gen.specs.Generator.{next_state, drawn, last_digits, call_by, generated, history_from, state_after};
+ghost use Rattle.palm_gen.specs.Generator.{next_state, drawn, last_digits, call_by, generated, history_from};
+ghost use Rattle.palm_gen.specs.Generator.{state_after};
 ghost use Rattle.palm_gen.specs.declared.summary.TheConstants.{MOST_GENERATED_CALLS};
 
 use palm_base::{Amount, Call, Digits, Entry, Limit, MOST_DIGITS, NoMemory};
@@ -81,8 +83,9 @@ fn call_by(kind: u64, n: usize, value: u64, rate: u64) -> Call
     }
 }
 
-/// Call `i`, counted from 0, drawn from this state: the call, its caller, and the state after it, from which call `i + 1` is
-/// drawn. It takes three draws, for the call's kind, for its rate and the length of its prefix, and for the prefix.
+/// Call `i`, counted from 0, drawn from this state: the call, its caller, and the state after it, from which call
+/// `i + 1` is drawn. It takes three draws, for the call's kind, for its rate and the length of its prefix, and for
+/// the prefix.
 pub fn gen_call(state: u64, i: u64) -> (Call, u32, u64)
     ensures call { result.0 ≡ (generated state i).call }
     ensures caller { result.1 ≡ (generated state i).caller }
@@ -98,8 +101,8 @@ pub fn gen_call(state: u64, i: u64) -> (Call, u32, u64)
     (call, (i % CALLERS) as u32, third)
 }
 
-/// Appends the next `count` calls as entries of their callers, and gives the state after them. The first is call `i`, counted
-/// from 0, drawn from this state. `entries` are unchanged where memory is refused.
+/// Appends the next `count` calls as entries of their callers, and gives the state after them. The first is call
+/// `i`, counted from 0, drawn from this state. `entries` are unchanged where memory is refused.
 pub fn append_calls(
     state: u64,
     i: u64,

@@ -10,8 +10,8 @@ use std::marker::Model;
 /// The most calls that are generated in one run. With it the sum of a run's rates stays below 2^64.
 pub const MOST_GENERATED_CALLS: u64 = 10_000_000;
 
-/// What the replies of a run were so far: how many there were, how many were a Hit, and the sum of the rates of all Value and
-/// Hit replies, in the user's unit. Contracts see the three numbers.
+/// What the replies of a run were so far: how many there were, how many were a Hit, and the sum of the rates of all
+/// Value and Hit replies, in the user's unit. Contracts see the three numbers.
 #[derive(Debug, Drop)]
 pub struct Tally {
     calls: u64,
@@ -79,7 +79,9 @@ fn append_line(name: &[u8], number: u64, text: &mut Vec<u8>) -> Result<(), NoMem
 }
 
 fn append_summary(tally: &Tally, rows: u64, levels: u32, text: &mut Vec<u8>) -> Result<(), NoMemory>
-    ensures ok { OnOk result (text.new.items ≡ text.old.items ++ summary_text tally.now.calls rows levels tally.now.hits tally.now.sum) }
+    ensures ok { OnOk result
+        (text.new.items ≡ text.old.items ++ summary_text tally.now.calls rows levels
+        tally.now.hits tally.now.sum) }
     ensures kept { Extends text.old.items text.new.items }
 {
     append_line(b"calls", tally.calls, text)?;
@@ -89,15 +91,18 @@ fn append_summary(tally: &Tally, rows: u64, levels: u32, text: &mut Vec<u8>) -> 
     append_line(b"sum", tally.sum, text)
 }
 
-/// Appends the summary of a run, five lines: the number of its calls, of the rows of the table and of the levels of the tree at
-/// its end, and of the Hit replies, and the sum of the rates in its replies. `text` is unchanged where memory is refused.
+/// Appends the summary of a run, five lines: the number of its calls, of the rows of the table and of the levels of
+/// the tree at its end, and of the Hit replies, and the sum of the rates in its replies. `text` is unchanged where
+/// memory is refused.
 pub fn print_summary(
     tally: &Tally,
     rows: u64,
     levels: u32,
     text: &mut Vec<u8>,
 ) -> Result<(), NoMemory>
-    ensures ok { OnOk result (text.new.items ≡ text.old.items ++ summary_text tally.now.calls rows levels tally.now.hits tally.now.sum) }
+    ensures ok { OnOk result
+        (text.new.items ≡ text.old.items ++ summary_text tally.now.calls rows levels
+        tally.now.hits tally.now.sum) }
     ensures err { OnErr result (text.new.items ≡ text.old.items) }
 {
     let before = text.len();

@@ -1,5 +1,7 @@
 // Key search in lanes. Each answer is of the first `len` keys alone, whatever stands behind them.
-ghost use Rattle.std.specs.Prelude.{◌≡◌, ◌≤◌, ◌<◌, ◌+◌, ◌*◌, ◌%◌, ◌^◌, ◌==◌, nat_le, count_by, take, length, slice_get, position, Some, IfSome, IfNone, Contains};
+ghost use Rattle.std.specs.Prelude.{◌≡◌, ◌≤◌, ◌<◌, ◌+◌, ◌*◌, ◌%◌, ◌^◌, ◌==◌};
+ghost use Rattle.std.specs.Prelude.{nat_le, count_by, take, length, slice_get, position, Some, IfSome, IfNone};
+ghost use Rattle.std.specs.Prelude.{Contains};
 ghost use Rattle.palm_lanes.specs.Bits.{bits_where};
 
 use std::simd::u64x8;

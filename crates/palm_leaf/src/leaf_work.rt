@@ -1,12 +1,14 @@
 // One leaf's work: from its rows and its parts to the answers and the leaves that stand for it.
-ghost use Rattle.std.specs.Prelude.{◌≡◌, ℕ, ◌≤◌, ◌<◌, ◌+◌, ◌∷◌, ◌⊎◌, true, false, List, [], length, map, take, Some, vec_len, vec_capacity};
+ghost use Rattle.std.specs.Prelude.{◌≡◌, ℕ, ◌≤◌, ◌<◌, ◌+◌, ◌∷◌, ◌⊎◌, true, false};
+ghost use Rattle.std.specs.Prelude.{List, [], length, map, take, Some, vec_len, vec_capacity};
 ghost use Rattle.palm_base.specs.Table.{IsTable};
 ghost use Rattle.palm_base.specs.Cut.{piece_count, piece_size};
 ghost use Rattle.palm_base.specs.Pass.{is_small, leaves_of};
 ghost use Rattle.palm_base.specs.declared.row.Row.{Row};
 ghost use Rattle.palm_leaf.specs.Answers.{answers_in, rows_in_node};
 ghost use Rattle.palm_leaf.specs.Asked.{all_look};
-ghost use Rattle.palm_leaf.specs.Worked.{answers_of_plan, low_and_rows, parts_of_plan, IsPlan, IsResolved, IsReady, HasRun};
+ghost use Rattle.palm_leaf.specs.Worked.{answers_of_plan, low_and_rows, parts_of_plan, IsPlan, IsResolved, IsReady};
+ghost use Rattle.palm_leaf.specs.Worked.{HasRun};
 
 use crate::rows::{Asked, has_edit, look_all, resolve};
 use palm_arena::Lease;
@@ -60,7 +62,10 @@ pub fn cut_later(rows: &[Row], later: &mut Vec<NewLeaf>)
     requires empty { later.old.items ≡ [] }
     requires room { piece_count MOST_LEAF_ROWS (length rows.now) ≤ vec_capacity later.old + 1 }
     ensures count { vec_len later.new + 1 ≡ piece_count MOST_LEAF_ROWS (length rows.now) }
-    ensures pieces { (low : ℕ) → (low, take (piece_size MOST_LEAF_ROWS (length rows.now) 0) rows.now) ∷ map low_and_rows later.new.items ≡ leaves_of low rows.now }
+    ensures pieces { (low : ℕ)
+        → (low, take (piece_size MOST_LEAF_ROWS (length rows.now) 0) rows.now) ∷ map low_and_rows
+        later.new.items
+        ≡ leaves_of low rows.now }
 {
     let count = rows.len();
     let (_, mut rest) = rows.split_at(piece_size(MOST_LEAF_ROWS, count, 0));
@@ -77,8 +82,11 @@ pub fn cut_later(rows: &[Row], later: &mut Vec<NewLeaf>)
 impl LeafPlan<'_> {
     // Whether the leaf stands on: rows are left, and not too few.
     fn stays(&self) -> bool
-        ensures stays { result ≡ true → (0 < length self.now.rows.items) × (is_small self.now.least self.now.rows.items ≡ false) }
-        ensures removed { result ≡ false → (self.now.rows.items ≡ []) ⊎ (is_small self.now.least self.now.rows.items ≡ true) }
+        ensures stays { result ≡ true
+            → (0 < length self.now.rows.items)
+            × (is_small self.now.least self.now.rows.items ≡ false) }
+        ensures removed { result ≡ false
+            → (self.now.rows.items ≡ []) ⊎ (is_small self.now.least self.now.rows.items ≡ true) }
     {
         !self.rows.is_empty() && self.rows.len() >= self.least
     }
@@ -104,7 +112,8 @@ pub fn look_parts(node: &Node, plan: &mut LeafPlan<'_>)
     requires leaf { (rows : List Row) × (node.now ≡ Node.Leaf rows) }
     requires looks { all_look (parts_of_plan plan.old) ≡ true }
     ensures plan { plan.new ≡ record plan.old { asked = plan.new.asked } }
-    ensures answers { answers_of_plan plan.new ≡ answers_in (rows_in_node (Some node.now)) (parts_of_plan plan.old) }
+    ensures answers { answers_of_plan plan.new ≡ answers_in (rows_in_node (Some node.now))
+        (parts_of_plan plan.old) }
     ensures few { length (rows_in_node (Some node.now)) ≤ MOST_LEAF_ROWS }
 {
     let Node::Leaf(leaf) = node else {
@@ -121,12 +130,15 @@ fn keep(lease: &mut Lease, plan: &mut LeafPlan<'_>)
     requires some { 0 < length plan.old.rows.items }
     requires table { IsTable plan.old.rows.items }
     requires empty { plan.old.later.items ≡ [] }
-    requires room { piece_count MOST_LEAF_ROWS (length plan.old.rows.items) ≤ vec_capacity plan.old.later + 1 }
+    requires room { piece_count MOST_LEAF_ROWS (length plan.old.rows.items) ≤ vec_capacity
+        plan.old.later + 1 }
     ensures id { lease.new.id ≡ lease.old.id }
     ensures leaf { (rows : List Row) × (lease.new.node ≡ Node.Leaf rows) }
     ensures count { vec_len plan.new.later + 1 ≡ piece_count MOST_LEAF_ROWS (length plan.old.rows.items) }
     ensures plan { plan.new ≡ record plan.old { later = plan.new.later; kept = true } }
-    ensures pieces { (low : ℕ) → (low, rows_in_node (Some lease.new.node)) ∷ map low_and_rows plan.new.later.items ≡ leaves_of low plan.old.rows.items }
+    ensures pieces { (low : ℕ)
+        → (low, rows_in_node (Some lease.new.node)) ∷ map low_and_rows plan.new.later.items
+        ≡ leaves_of low plan.old.rows.items }
 {
     let first = piece_size(MOST_LEAF_ROWS, plan.rows.len(), 0);
     let Node::Leaf(leaf) = lease.node_mut() else {

@@ -1,4 +1,5 @@
-// The leaf stage of a pass: the touched leaves are lent with their parts, worked on beside each other, given back and settled.
+// The leaf stage of a pass: the touched leaves are lent with their parts, worked on beside each other, given back
+// and settled.
 ghost use Rattle.std.specs.Prelude.{◌≡◌, ◌≤◌, ◌+◌, ◌*◌, List, All, length, vec_len, IsSome, IfOk};
 ghost use Rattle.std.specs.List.{flat_map, AllZip};
 ghost use Rattle.palm_arena.specs.ArenaState.{NoneLent};
@@ -68,7 +69,8 @@ fn work_leaves<R: Threads + Sync, G: Gate + Sync, L: Ledger>(
     requires some { 1 ≤ workers }
     requires few { workers ≤ MOST_WORKERS }
     requires groups { HasGroups (map_of arena.old.places) groups.now }
-    ensures done { IfOk result (λ gathered. LeavesDone (map_of arena.old.places) (map_of arena.new.places) least groups.now gathered) }
+    ensures done { IfOk result (λ gathered.
+        LeavesDone (map_of arena.old.places) (map_of arena.new.places) least groups.now gathered) }
     ensures begun { arena.new.begun ≡ arena.old.begun }
     ensures none_lent { NoneLent arena.new.places }
     ensures ticks { steps.new ≤ steps.old + 2 * parts_in groups.now }
@@ -90,14 +92,14 @@ fn work_leaves<R: Threads + Sync, G: Gate + Sync, L: Ledger>(
     }
 }
 
-/// Does the leaves of a pass: each touched leaf's parts are resolved over its rows in the order of their arrival, each part is
-/// answered, and the rows that are left are cut into leaves. A leaf below the root that is left with some rows, but fewer than
-/// `LEAST_LEAF_ROWS`, is removed, and its rows are loose; one that is left with none is removed. The parts of a leaf are
-/// answered in the order of their arrival, the leaves from left to right.
+/// Does the leaves of a pass: each touched leaf's parts are resolved over its rows in the order of their arrival,
+/// each part is answered, and the rows that are left are cut into leaves. A leaf below the root that is left with
+/// some rows, but fewer than `LEAST_LEAF_ROWS`, is removed, and its rows are loose; one that is left with none is
+/// removed. The parts of a leaf are answered in the order of their arrival, the leaves from left to right.
 ///
-/// The leaves are worked on by at most `workers` workers beside each other. It counts a step for each leaf that it lends, and
-/// one for each leaf that it takes. `NoMemory` where memory was refused: no leaf is lent then, and what the batch under way
-/// began with can be rolled back to.
+/// The leaves are worked on by at most `workers` workers beside each other. It counts a step for each leaf that it
+/// lends, and one for each leaf that it takes. `NoMemory` where memory was refused: no leaf is lent then, and what
+/// the batch under way began with can be rolled back to.
 pub fn change_leaves<R: Threads + Sync, G: Gate + Sync, L: Ledger>(
     rt: &R,
     alloc: Global,
@@ -112,9 +114,16 @@ pub fn change_leaves<R: Threads + Sync, G: Gate + Sync, L: Ledger>(
     requires none_lent { NoneLent arena.old.places }
     requires some { 1 ≤ workers }
     requires few { workers ≤ MOST_WORKERS }
-    requires pass { (p : Pass) × (parts : List Part) × Begins p (map_of arena.old.places) shape × IsRouted p (map_of arena.old.places) shape groups parts }
-    ensures stands { IfOk result (λ outcome. (p : Pass) (parts : List Part) → Begins p (map_of arena.old.places) shape → IsRouted p (map_of arena.old.places) shape groups parts → StandsAt p 1 (map_of arena.new.places) outcome.changes) }
-    ensures answers { IfOk result (λ outcome. outcome.answers ≡ flat_map (λ group. answers_in (rows_at (map_of arena.old.places) group.leaf) group.parts) groups) }
+    requires pass { (p : Pass) × (parts : List Part) × Begins p (map_of arena.old.places) shape
+        × IsRouted p (map_of arena.old.places) shape groups parts }
+    ensures stands { IfOk result (λ outcome.
+        (p : Pass) (parts : List Part) → Begins p (map_of arena.old.places) shape
+        → IsRouted p (map_of arena.old.places) shape groups parts
+        → StandsAt p 1 (map_of arena.new.places) outcome.changes) }
+    ensures answers { IfOk result (λ outcome.
+        outcome.answers ≡ flat_map
+        (λ group. answers_in (rows_at (map_of arena.old.places) group.leaf) group.parts)
+        groups) }
     ensures begun { arena.new.begun ≡ arena.old.begun }
     ensures none_lent { NoneLent arena.new.places }
     ensures within { IfOk result (λ outcome. IsWithin (parts_in groups) outcome.changes) }

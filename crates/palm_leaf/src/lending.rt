@@ -1,5 +1,6 @@
 // Leaves are lent with their plans, worked on beside each other, and given back.
-ghost use Rattle.std.specs.Prelude.{◌≡◌, ◌≤◌, ◌+◌, ◌++◌, ◌∷◌, [], List, length, map, Some, IsSome, IfOk, OnOk, OnErr, vec_len, vec_capacity};
+ghost use Rattle.std.specs.Prelude.{◌≡◌, ◌≤◌, ◌+◌, ◌++◌, ◌∷◌, [], List, length, map};
+ghost use Rattle.std.specs.Prelude.{Some, IsSome, IfOk, OnOk, OnErr, vec_len, vec_capacity};
 ghost use Rattle.std.specs.List.{AllByRecursion};
 ghost use Rattle.palm_base.specs.declared.row.Row.{Row};
 ghost use Rattle.palm_node.specs.declared.node.Node.TheVariants.{Leaf};
@@ -42,7 +43,11 @@ fn lend_leaf<'a, L: Ledger>(
     requires leaf { (rows : List Row) × (node_at arena.old.places group.now.leaf ≡ Some (Leaf rows)) }
     requires keys { AllByRecursion HasKey group.now.parts }
     ensures work { IfOk result (λ work. IsLoaded (map_of arena.old.places) least group.now work) }
-    ensures ok { OnOk result (arena.new ≡ record arena.old { places = with_place arena.old.places group.now.leaf Lent; moved = arena.old.moved ++ group.now.leaf ∷ [] }) }
+    ensures ok { OnOk result
+        (arena.new ≡ record arena.old {
+          places = with_place arena.old.places group.now.leaf Lent;
+          moved = arena.old.moved ++ group.now.leaf ∷ [];
+        }) }
     ensures err { OnErr result (arena.new ≡ arena.old) }
     ensures tick { OnOk result (steps.new ≡ steps.old + 1) }
     ensures ticks { OnErr result ((steps.old ≤ steps.new) × (steps.new ≤ steps.old + 1)) }
@@ -67,13 +72,19 @@ pub fn lend_leaves<'a, L: Ledger>(
 ) -> Result<(), NoMemory>
     requires under_way { IsSome arena.old.begun }
     requires none_lent { NoneLent arena.old.places }
-    requires leaves { (others : List Cell) × Owns (map_of arena.old.places) (group_cells (map_of arena.old.places) groups.now ++ others) }
+    requires leaves { (others : List Cell)
+        × Owns (map_of arena.old.places)
+        (group_cells (map_of arena.old.places) groups.now ++ others) }
     requires keys { AllByRecursion (λ group. AllByRecursion HasKey group.parts) groups.now }
     requires empty { works.old.items ≡ [] }
     requires room { length groups.now ≤ vec_capacity works.old }
     ensures works { OnOk result (map Some (present works.new.items) ≡ works.new.items) }
-    ensures loaded { OnOk result (Matched (IsLoaded (map_of arena.old.places) least) groups.now (present works.new.items)) }
-    ensures turned { OnOk result (Turns (map_of arena.old.places) (map_of arena.new.places) (group_cells (map_of arena.old.places) groups.now) []) }
+    ensures loaded { OnOk result
+        (Matched (IsLoaded (map_of arena.old.places) least) groups.now
+        (present works.new.items)) }
+    ensures turned { OnOk result
+        (Turns (map_of arena.old.places) (map_of arena.new.places)
+        (group_cells (map_of arena.old.places) groups.now) []) }
     ensures lent { LentAre arena.new.places (lease_ids (present works.new.items)) }
     ensures begun { arena.new.begun ≡ arena.old.begun }
     ensures few { vec_len works.new ≤ length groups.now }
@@ -90,7 +101,8 @@ pub fn lend_leaves<'a, L: Ledger>(
 fn give_back<'a>(arena: &mut Arena, work: LeafWork<'a>) -> LeafDone<'a>
     requires { IsLent arena.old.places work.lease.id }
     ensures done { result ≡ done_of work.entry }
-    ensures arena { arena.new ≡ record arena.old { places = with_place arena.old.places work.entry.lease.id (Holds work.entry.lease.node) } }
+    ensures arena { arena.new ≡ record arena.old
+        { places = with_place arena.old.places work.entry.lease.id (Holds work.entry.lease.node) } }
 {
     let LeafWork { lease, plan } = work;
     let id = lease.id();
@@ -108,7 +120,8 @@ pub fn give_leaves_back<'a>(
     requires empty { done.old.items ≡ [] }
     requires room { vec_len works ≤ vec_capacity done.old }
     ensures done { done.new.items ≡ map done_of (present works.entry.items) }
-    ensures turned { Turns (map_of arena.old.places) (map_of arena.new.places) [] (map lease_cell (present works.entry.items)) }
+    ensures turned { Turns (map_of arena.old.places) (map_of arena.new.places) []
+        (map lease_cell (present works.entry.items)) }
     ensures none_lent { NoneLent arena.new.places }
     ensures begun { arena.new.begun ≡ arena.old.begun }
     ensures moved { arena.new.moved ≡ arena.old.moved }

@@ -1,5 +1,6 @@
 // Room for all that may come of a leaf, made before the leaves are worked on, so that the work can't fail.
-ghost use Rattle.std.specs.Prelude.{◌≡◌, ◌<◌, true, false, ◌≤◌, ◌+◌, ◌==◌, if◌then◌else◌, map, IfOk, vec_capacity};
+ghost use Rattle.std.specs.Prelude.{◌≡◌, ◌<◌, true, false, ◌≤◌, ◌+◌, ◌==◌};
+ghost use Rattle.std.specs.Prelude.{if◌then◌else◌, map, IfOk, vec_capacity};
 ghost use Rattle.std.specs.List.{AllByRecursion};
 ghost use Rattle.palm_base.specs.declared.bounds.TheConstants.{MOST_LEAF_ROWS};
 ghost use Rattle.palm_leaf.specs.Asked.{all_look, set_count, part_of, HasRoom};
@@ -34,7 +35,8 @@ fn ask(alloc: Global, part: &Part, most: usize) -> Result<Asked, NoMemory>
 fn ask_all(alloc: Global, parts: &[Part], most: usize) -> Result<Vec<Asked>, NoMemory>
     ensures parts { IfOk result (λ asked. map part_of asked.items ≡ parts.now) }
     ensures room { IfOk result (λ asked. AllByRecursion (HasRoom most) asked.items) }
-    ensures no_more { IfOk result (λ asked. AllByRecursion (λ one. vec_capacity one.found ≤ most) asked.items) }
+    ensures no_more { IfOk result (λ asked.
+        AllByRecursion (λ one. vec_capacity one.found ≤ most) asked.items) }
 {
     let mut all = Vec::with_capacity(alloc, parts.len())?;
     for part in parts {
@@ -90,8 +92,9 @@ fn row_room(looks: bool, most: usize) -> usize
     if looks { 0 } else { most }
 }
 
-/// The plan for a group's leaf, which has `held` rows. It is removed where it is left with some rows, but fewer than `least`.
-/// Only a Set can add a row, so there is room by `held` and the number of Sets. `NoMemory` where room was refused.
+/// The plan for a group's leaf, which has `held` rows. It is removed where it is left with some rows, but fewer
+/// than `least`. Only a Set can add a row, so there is room by `held` and the number of Sets. `NoMemory` where room
+/// was refused.
 pub fn plan<'a>(
     alloc: Global,
     group: &'a Group,

@@ -1,11 +1,13 @@
 // The rows of a leaf while its parts are resolved, one after another in the order of their arrival.
-ghost use Rattle.std.specs.Prelude.{◌≡◌, true, ◌≤◌, ◌<◌, ◌+◌, [], ◌∷◌, length, map, take, filter, vec_len, vec_capacity};
+ghost use Rattle.std.specs.Prelude.{◌≡◌, true, ◌≤◌, ◌<◌, ◌+◌, [], ◌∷◌, length, map, take};
+ghost use Rattle.std.specs.Prelude.{filter, vec_len, vec_capacity};
 ghost use Rattle.std.specs.List.{AllByRecursion};
 ghost use Rattle.palm_base.specs.Table.{rate_at, put, without, lies_within, after_all, IsTable};
 ghost use Rattle.palm_route.specs.Edits.{edits_of};
 ghost use Rattle.palm_leaf.specs.Routed.{HasKey};
 ghost use Rattle.palm_leaf.specs.Answers.{answers_in, answer_of, after_part};
-ghost use Rattle.palm_leaf.specs.Asked.{is_edit, is_look, all_look, has_edit, set_count, answered, part_of, IsOpen, FindsRoom};
+ghost use Rattle.palm_leaf.specs.Asked.{is_edit, is_look, all_look, has_edit, set_count, answered, part_of, IsOpen};
+ghost use Rattle.palm_leaf.specs.Asked.{FindsRoom};
 
 use palm_base::{Amount, Digits, Row, find_row};
 use palm_node::Leaf;
@@ -105,7 +107,10 @@ impl Asked {
     // Answers the part, which looks for a row, in a leaf.
     fn look(&mut self, leaf: &Leaf)
         requires { is_look self.old.part.ask ≡ true }
-        ensures answer { answered self.new ≡ record { part = self.old.part; answer = answer_of leaf.now self.old.part } }
+        ensures answer { answered self.new ≡ record {
+          part = self.old.part;
+          answer = answer_of leaf.now self.old.part;
+        } }
         ensures rows { after_part leaf.now self.old.part ≡ leaf.now }
     {
         let Ask::Look = &self.part.ask else {
@@ -118,7 +123,10 @@ impl Asked {
     fn answer(&mut self, rows: &[Row])
         requires table { IsTable rows.now }
         requires open { IsOpen (length rows.now) self.old }
-        ensures answer { answered self.new ≡ record { part = self.old.part; answer = answer_of rows.now self.old.part } }
+        ensures answer { answered self.new ≡ record {
+          part = self.old.part;
+          answer = answer_of rows.now self.old.part;
+        } }
         ensures part { self.new.part ≡ self.old.part }
     {
         match &self.part.ask {
@@ -162,7 +170,10 @@ impl Asked {
         requires table { IsTable rows.old.items }
         requires room { vec_len rows.old + set_count (self.old.part ∷ []) ≤ vec_capacity rows.old }
         requires open { IsOpen (length rows.old.items) self.old }
-        ensures answer { answered self.new ≡ record { part = self.old.part; answer = answer_of rows.old.items self.old.part } }
+        ensures answer { answered self.new ≡ record {
+          part = self.old.part;
+          answer = answer_of rows.old.items self.old.part;
+        } }
         ensures rows { rows.new.items ≡ after_part rows.old.items self.old.part }
         ensures table { IsTable rows.new.items }
         ensures len { vec_len rows.new ≤ vec_len rows.old + set_count (self.old.part ∷ []) }

@@ -1,6 +1,7 @@
 // Leaves that were given back are settled: the later leaves of each are put into the arena, and one that isn't kept is
 // dropped. Where memory is refused the batch is abandoned, so what was done so far stays as it is.
-ghost use Rattle.std.specs.Prelude.{◌≡◌, ◌≤◌, ◌+◌, ◌++◌, ◌∷◌, [], List, length, map, sum_by, Some, IsSome, IfOk, OnOk};
+ghost use Rattle.std.specs.Prelude.{◌≡◌, ◌≤◌, ◌+◌, ◌++◌, ◌∷◌, [], List, length, map};
+ghost use Rattle.std.specs.Prelude.{sum_by, Some, IsSome, IfOk, OnOk};
 ghost use Rattle.palm_base.specs.declared.row.Row.{Row};
 ghost use Rattle.palm_node.specs.declared.node.Node.TheVariants.{Leaf};
 ghost use Rattle.palm_arena.specs.ArenaState.{node_at, NoneLent};
@@ -65,7 +66,9 @@ fn take_later<L: Ledger>(
 ) -> Result<(), NoMemory>
     requires under_way { IsSome arena.old.begun }
     requires none_lent { NoneLent arena.old.places }
-    ensures taken { OnOk result (AreTaken (map_of arena.old.places) (map_of arena.new.places) pieces.old pieces.new later.items) }
+    ensures taken { OnOk result
+        (AreTaken (map_of arena.old.places) (map_of arena.new.places) pieces.old pieces.new
+        later.items) }
     ensures begun { arena.new.begun ≡ arena.old.begun }
     ensures none_lent { NoneLent arena.new.places }
     ensures ticks { steps.new ≤ steps.old + length later.items }
@@ -92,7 +95,18 @@ fn settle_kept<L: Ledger>(
     requires under_way { IsSome arena.old.begun }
     requires none_lent { NoneLent arena.old.places }
     requires leaf { (rows : List Row) × (node_at arena.old.places first.id ≡ Some (Leaf rows)) }
-    ensures end { OnOk result (EndsAs (map_of arena.old.places) (map_of arena.new.places) (record { node = first.id; path = path.now; outcome = record { pieces = (first.low, rows_at (map_of arena.old.places) first.id) ∷ map low_and_rows later.items; loose = [] } }) gathered.old gathered.new) }
+    ensures end { OnOk result
+        (EndsAs (map_of arena.old.places) (map_of arena.new.places)
+        (record {
+          node = first.id;
+          path = path.now;
+          outcome = record {
+            pieces = (first.low, rows_at (map_of arena.old.places) first.id)
+                ∷ map low_and_rows later.items;
+            loose = [];
+          };
+        })
+        gathered.old gathered.new) }
     ensures begun { arena.new.begun ≡ arena.old.begun }
     ensures none_lent { NoneLent arena.new.places }
     ensures ticks { steps.new ≤ steps.old + length later.items }
@@ -121,7 +135,14 @@ fn settle_removed(
     requires under_way { IsSome arena.old.begun }
     requires none_lent { NoneLent arena.old.places }
     requires leaf { (left : List Row) × (node_at arena.old.places id ≡ Some (Leaf left)) }
-    ensures end { OnOk result (EndsAs (map_of arena.old.places) (map_of arena.new.places) (record { node = id; path = path.now; outcome = record { pieces = []; loose = rows.now } }) gathered.old gathered.new) }
+    ensures end { OnOk result
+        (EndsAs (map_of arena.old.places) (map_of arena.new.places)
+        (record {
+          node = id;
+          path = path.now;
+          outcome = record { pieces = []; loose = rows.now };
+        })
+        gathered.old gathered.new) }
     ensures begun { arena.new.begun ≡ arena.old.begun }
     ensures none_lent { NoneLent arena.new.places }
     ensures moved { arena.new.moved ≡ arena.old.moved }
@@ -147,7 +168,9 @@ fn settle<L: Ledger>(
     requires under_way { IsSome arena.old.begun }
     requires none_lent { NoneLent arena.old.places }
     requires leaf { (rows : List Row) × (node_at arena.old.places done.id ≡ Some (Leaf rows)) }
-    ensures end { OnOk result (EndsWith (map_of arena.old.places) (map_of arena.new.places) done.entry gathered.old gathered.new) }
+    ensures end { OnOk result
+        (EndsWith (map_of arena.old.places) (map_of arena.new.places) done.entry gathered.old
+        gathered.new) }
     ensures begun { arena.new.begun ≡ arena.old.begun }
     ensures none_lent { NoneLent arena.new.places }
     ensures ticks { steps.new ≤ steps.old + length done.entry.plan.later.items }
@@ -190,8 +213,8 @@ fn part_count(done: &[LeafDone<'_>]) -> usize {
     count
 }
 
-/// Settles all leaves in their order. It counts a step for each later leaf. `NoMemory` where memory was refused: what was done
-/// so far stays, so the batch has to be rolled back.
+/// Settles all leaves in their order. It counts a step for each later leaf. `NoMemory` where memory was refused:
+/// what was done so far stays, so the batch has to be rolled back.
 pub fn settle_leaves<L: Ledger>(
     alloc: Global,
     arena: &mut Arena,
@@ -200,8 +223,14 @@ pub fn settle_leaves<L: Ledger>(
 ) -> Result<Gathered, NoMemory>
     requires under_way { IsSome arena.old.begun }
     requires none_lent { NoneLent arena.old.places }
-    requires leaves { (others : List Cell) × Owns (map_of arena.old.places) (done_cells (map_of arena.old.places) done.items ++ others) }
-    ensures ends { IfOk result (λ gathered. LeavesEnd (map_of arena.old.places) (map_of arena.new.places) (done_cells (map_of arena.old.places) done.entry.items) (map (end_of_done (map_of arena.old.places)) done.entry.items) gathered.nodes gathered.loose.items) }
+    requires leaves { (others : List Cell)
+        × Owns (map_of arena.old.places)
+        (done_cells (map_of arena.old.places) done.items ++ others) }
+    ensures ends { IfOk result (λ gathered.
+        LeavesEnd (map_of arena.old.places) (map_of arena.new.places)
+        (done_cells (map_of arena.old.places) done.entry.items)
+        (map (end_of_done (map_of arena.old.places)) done.entry.items) gathered.nodes
+        gathered.loose.items) }
     ensures answers { IfOk result (λ gathered. gathered.answers ≡ answers_of_done done.entry.items) }
     ensures begun { arena.new.begun ≡ arena.old.begun }
     ensures none_lent { NoneLent arena.new.places }

@@ -1,5 +1,6 @@
 // A level of the tree, done in a pass: from the changes of the level below to its own.
-ghost use Rattle.std.specs.Prelude.{◌≡◌, ℕ, ◌+◌, ◌-◌, ◌*◌, ◌<◌, ◌≤◌, [], length, map, sum_by, IsSome, IfOk, OnOk, All};
+ghost use Rattle.std.specs.Prelude.{◌≡◌, ℕ, ◌+◌, ◌-◌, ◌*◌, ◌<◌, ◌≤◌, [], length, map};
+ghost use Rattle.std.specs.Prelude.{sum_by, IsSome, IfOk, OnOk, All};
 ghost use Rattle.std.specs.List.{AllByRecursion, AllZip};
 ghost use Rattle.std.specs.Vec.{vec_len, vec_capacity};
 ghost use Rattle.std.proofs.Common.{suc};
@@ -37,8 +38,8 @@ fn run_all<R: Threads + Sync, G: Gate + Sync>(
     each_mut(rt, alloc, tasks, workers, gate);
 }
 
-// Lends the nodes that are made anew, makes them beside each other, and ends the work on them. Where memory is refused, the
-// tasks that are left have their leases.
+// Lends the nodes that are made anew, makes them beside each other, and ends the work on them. Where memory is
+// refused, the tasks that are left have their leases.
 fn work_all<'a, R: Threads + Sync, G: Gate + Sync, L: Ledger>(
     rt: &R,
     alloc: Global,
@@ -62,8 +63,11 @@ fn work_all<'a, R: Threads + Sync, G: Gate + Sync, L: Ledger>(
     ensures lent { LentTo arena.new.places tasks.new.items }
     ensures empty { OnOk result (tasks.new.items ≡ []) }
     ensures begun { arena.new.begun ≡ arena.old.begun }
-    ensures ok { OnOk result (HasWorked (map_of arena.old.places) level (map planned_key planned.entry.items) (map_of arena.new.places) made.old made.new) }
-    ensures ticks { steps.new ≤ steps.old + vec_len planned.entry + sum_by (spare_of (map_of arena.old.places)) (map planned_key planned.entry.items) }
+    ensures ok { OnOk result
+        (HasWorked (map_of arena.old.places) level (map planned_key planned.entry.items)
+        (map_of arena.new.places) made.old made.new) }
+    ensures ticks { steps.new ≤ steps.old + vec_len planned.entry + sum_by
+        (spare_of (map_of arena.old.places)) (map planned_key planned.entry.items) }
     ensures moved { length arena.new.moved + steps.old ≤ length arena.old.moved + steps.new }
 {
     lend_all(arena, planned, tasks, steps)?;
@@ -71,13 +75,13 @@ fn work_all<'a, R: Threads + Sync, G: Gate + Sync, L: Ledger>(
     finish_all(alloc, arena, level, tasks, made, steps)
 }
 
-/// Does the next level of a pass: each inner node with changed children gets what stands for them in their place, and
-/// becomes pieces itself. It is cut where its children are too many, removed with those that are left where they are too
-/// few, and dropped where none is left. `changes` are those of the level below, and what it gives those of `level`, counted
-/// from the leaves at 1, with the loose rows and the removed nodes of both.
+/// Does the next level of a pass: each inner node with changed children gets what stands for them in their place,
+/// and becomes pieces itself. It is cut where its children are too many, removed with those that are left where
+/// they are too few, and dropped where none is left. `changes` are those of the level below, and what it gives
+/// those of `level`, counted from the leaves at 1, with the loose rows and the removed nodes of both.
 ///
-/// The nodes are made anew by at most `workers` workers beside each other. Only nodes whose children changed in number or
-/// place are written. `NoMemory` where memory was refused: the batch has to be rolled back.
+/// The nodes are made anew by at most `workers` workers beside each other. Only nodes whose children changed in
+/// number or place are written. `NoMemory` where memory was refused: the batch has to be rolled back.
 pub fn change_level<R: Threads + Sync, G: Gate + Sync, L: Ledger>(
     rt: &R,
     alloc: Global,
@@ -94,8 +98,12 @@ pub fn change_level<R: Threads + Sync, G: Gate + Sync, L: Ledger>(
     requires some { 1 ≤ workers }
     requires few { workers ≤ MOST_WORKERS }
     requires level { (2 ≤ level) × (level < shape.levels) }
-    requires stands { (p : Pass) × (shape.levels ≡ suc p.tree.0) × StandsAt p (level - 1) (map_of arena.old.places) changes.now }
-    ensures stands { IfOk result (λ made. (p : Pass) → shape.levels ≡ suc p.tree.0 → StandsAt p (level - 1) (map_of arena.old.places) changes.now → StandsAt p level (map_of arena.new.places) made) }
+    requires stands { (p : Pass) × (shape.levels ≡ suc p.tree.0)
+        × StandsAt p (level - 1) (map_of arena.old.places) changes.now }
+    ensures stands { IfOk result (λ made.
+        (p : Pass) → shape.levels ≡ suc p.tree.0
+        → StandsAt p (level - 1) (map_of arena.old.places) changes.now
+        → StandsAt p level (map_of arena.new.places) made) }
     ensures begun { arena.new.begun ≡ arena.old.begun }
     ensures none_lent { NoneLent arena.new.places }
     ensures within { IfOk result (λ made. (n : ℕ) → IsWithin n changes.now → IsWithin n made) }

@@ -1,5 +1,5 @@
-//! A pass of edits over the tree goes up level by level: the inner nodes of a level whose children changed are made anew
-//! over what stands for those children.
+//! A pass of edits over the tree goes up level by level: the inner nodes of a level whose children changed are made
+//! anew over what stands for those children.
 #![tactic(auto)]
 
 mod level;

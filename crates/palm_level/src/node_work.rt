@@ -1,5 +1,6 @@
 // One inner node of a level: from what stands for its children to what stands for it.
-ghost use Rattle.std.specs.Prelude.{◌≡◌, ◌+◌, ◌-◌, ◌<◌, ◌≤◌, ◌++◌, [], length, take, drop, map};
+ghost use Rattle.std.specs.Prelude.{◌≡◌, ◌+◌, ◌-◌, ◌<◌, ◌≤◌, ◌++◌, [], length, take};
+ghost use Rattle.std.specs.Prelude.{drop, map};
 ghost use Rattle.std.specs.Vec.{vec_len, vec_capacity};
 ghost use Rattle.palm_base.specs.Cut.{piece_count, cut};
 ghost use Rattle.std.specs.List.{AllByRecursion};
@@ -34,7 +35,8 @@ fn append_own(inner: &Inner, from: usize, to: usize, children: &mut Vec<Piece>)
     requires order { from ≤ to }
     requires inside { to ≤ length inner.now.children }
     requires room { vec_len children.old + (to - from) ≤ vec_capacity children.old }
-    ensures items { children.new.items ≡ children.old.items ++ take (to - from) (drop from (children_of inner.now)) }
+    ensures items { children.new.items ≡ children.old.items ++ take (to - from)
+        (drop from (children_of inner.now)) }
     ensures len { vec_len children.new ≡ vec_len children.old + (to - from) }
     ensures capacity { vec_capacity children.new ≡ vec_capacity children.old }
 {
@@ -109,7 +111,8 @@ fn rework(
     requires no_children { children.old.items ≡ [] }
     requires no_later { later.old.items ≡ [] }
     requires children_room { length (children_left inner.old changes.now) ≤ vec_capacity children.old }
-    requires later_room { piece_count MOST_CHILDREN (length (children_left inner.old changes.now)) ≤ vec_capacity later.old + 1 }
+    requires later_room { piece_count MOST_CHILDREN (length (children_left inner.old changes.now)) ≤
+        vec_capacity later.old + 1 }
     ensures node { inner.new ≡ first_node inner.old (parts_left inner.old changes.now) }
     ensures children { children.new.items ≡ children_left inner.old changes.now }
     ensures later { later.new.items ≡ map later_over (drop 1 (parts_left inner.old changes.now)) }

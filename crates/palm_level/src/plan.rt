@@ -1,12 +1,14 @@
 // What is done to the parents of changed nodes: who they are, which of them are made anew, and the room for that.
-ghost use Rattle.std.specs.Prelude.{◌≡◌, ◌+◌, ◌-◌, ◌<◌, ◌≤◌, ◌∷◌, length, take, drop, map, true, false, IfOk, Some, MatchOption};
+ghost use Rattle.std.specs.Prelude.{◌≡◌, ◌+◌, ◌-◌, ◌<◌, ◌≤◌, ◌∷◌, length, take, drop};
+ghost use Rattle.std.specs.Prelude.{map, true, false, IfOk, Some, MatchOption};
 ghost use Rattle.std.specs.List.{AllByRecursion};
 ghost use Rattle.palm_node.specs.InnerNode.{IsInner};
 ghost use Rattle.palm_arena.specs.Reads.{map_of};
 ghost use Rattle.palm_level.specs.Splices.{last_step, path_above, children_left, PlacesRise};
 ghost use Rattle.palm_level.specs.Runs.{runs};
 ghost use Rattle.palm_level.specs.Groups.{touched_of, is_alone, is_still, low_at};
-ghost use Rattle.palm_level.specs.Plans.{Fits, IsInnerAt, CanWork, IsRoomAt, planned_key, touched_by, piece_total, HasRoom, IsPlanned};
+ghost use Rattle.palm_level.specs.Plans.{Fits, IsInnerAt, CanWork, IsRoomAt, planned_key, touched_by, piece_total};
+ghost use Rattle.palm_level.specs.Plans.{HasRoom, IsPlanned};
 
 use crate::node_work::{LaterNode, last_step_of, splice};
 use palm_arena::Arena;
@@ -100,8 +102,9 @@ fn count_most(inner: &Inner, changes: &[Change]) -> Result<usize, NoMemory>
     Ok(count)
 }
 
-/// What is left of the children of an inner node where some of them changed: those that didn't, and what stands for those that
-/// did. `None` where each of these stands for itself alone, so that the node stays as it is. `NoMemory` where room was refused.
+/// What is left of the children of an inner node where some of them changed: those that didn't, and what stands for
+/// those that did. `None` where each of these stands for itself alone, so that the node stays as it is. `NoMemory`
+/// where room was refused.
 pub fn children_after(
     alloc: Global,
     inner: &Inner,
@@ -110,7 +113,9 @@ pub fn children_after(
     requires inner { IsInner inner.now }
     requires paths { AllByRecursion (λ change. 0 < length change.path) changes.now }
     requires places { PlacesRise 0 (length inner.now.children) changes.now }
-    ensures { IfOk result (λ left. MatchOption left (is_still changes.now ≡ true) (λ children. (is_still changes.now ≡ false) × (children ≡ children_left inner.now changes.now))) }
+    ensures { IfOk result (λ left.
+        MatchOption left (is_still changes.now ≡ true) (λ children.
+        (is_still changes.now ≡ false) × (children ≡ children_left inner.now changes.now))) }
 {
     if all_stand_alone(changes) {
         return Ok(None);
@@ -204,8 +209,11 @@ pub fn plan_all<'a>(
 ) -> Result<Vec<Planned<'a>>, NoMemory>
     requires paths { AllByRecursion (λ change. 0 < length change.path) changes.now }
     requires fits { AllByRecursion (Fits (map_of arena.now.places)) (runs changes.now) }
-    ensures parents { IfOk result (λ planned. map planned_key planned.items ≡ map (touched_of (map_of arena.now.places)) (runs changes.now)) }
-    ensures planned { IfOk result (λ planned. AllByRecursion (IsPlanned (map_of arena.now.places)) planned.items) }
+    ensures parents { IfOk result (λ planned.
+        map planned_key planned.items
+        ≡ map (touched_of (map_of arena.now.places)) (runs changes.now)) }
+    ensures planned { IfOk result (λ planned.
+        AllByRecursion (IsPlanned (map_of arena.now.places)) planned.items) }
 {
     let mut planned = Vec::new(alloc);
     let mut rest = changes;

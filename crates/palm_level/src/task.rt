@@ -1,5 +1,6 @@
 // The work on the touched nodes of a level: their nodes are lent, made anew beside each other, and given back.
-ghost use Rattle.std.specs.Prelude.{◌≡◌, ◌+◌, ◌<◌, ◌≤◌, ◌∷◌, [], length, map, sum_by, Some, None, IsSome, IfOk, OnOk, OnErr};
+ghost use Rattle.std.specs.Prelude.{◌≡◌, ◌+◌, ◌<◌, ◌≤◌, ◌∷◌, [], length, map, sum_by};
+ghost use Rattle.std.specs.Prelude.{Some, None, IsSome, IfOk, OnOk, OnErr};
 ghost use Rattle.std.specs.List.{AllByRecursion};
 ghost use Rattle.std.specs.Vec.{vec_len, vec_capacity};
 ghost use Rattle.palm_base.specs.Pass.{is_small};
@@ -9,7 +10,10 @@ ghost use Rattle.palm_node.specs.declared.id.NodeId.{NodeId};
 ghost use Rattle.palm_arena.specs.ArenaState.{IsLent, NoneLent};
 ghost use Rattle.palm_arena.specs.Reads.{map_of};
 ghost use Rattle.palm_level.specs.Plans.{IsPlanned};
-ghost use Rattle.palm_level.specs.Tasks.{StandsForAny, FinishesAny, planned_id, Distinct, HasLent, IsTask, later_of, HasFinished, TaskIsLent, TaskComesHome, Took, SameLent, PutsBackAny, later_count, WorkIsLent, Starts, IsThere, LentTo, ComesHome, WorkMayRun, TaskRan};
+ghost use Rattle.palm_level.specs.Tasks.{StandsForAny, FinishesAny, planned_id, Distinct, HasLent, IsTask};
+ghost use Rattle.palm_level.specs.Tasks.{later_of, HasFinished, TaskIsLent, TaskComesHome, Took, SameLent};
+ghost use Rattle.palm_level.specs.Tasks.{PutsBackAny, later_count, WorkIsLent, Starts, IsThere, LentTo, ComesHome};
+ghost use Rattle.palm_level.specs.Tasks.{WorkMayRun, TaskRan};
 
 use crate::node_work::{LaterNode, LevelWork};
 use crate::plan::{Parent, Planned};
@@ -94,8 +98,8 @@ fn take_later<L: Ledger>(
     Ok(())
 }
 
-// Gives a node back that was made anew, and gives the pieces that stand for it: it is dropped where no child is left, and
-// removed where few are, so that no piece stands for it.
+// Gives a node back that was made anew, and gives the pieces that stand for it: it is dropped where no child is
+// left, and removed where few are, so that no piece stands for it.
 fn put_back<L: Ledger>(
     alloc: Global,
     arena: &mut Arena,
@@ -107,7 +111,8 @@ fn put_back<L: Ledger>(
 ) -> Result<PieceList, NoMemory>
     requires under_way { IsSome arena.old.begun }
     requires lent { IsLent arena.old.places work.lease.id }
-    ensures ok { IfOk result (λ pieces. PutsBackAny level low work.entry arena.old arena.new removed.old removed.new pieces) }
+    ensures ok { IfOk result (λ pieces.
+        PutsBackAny level low work.entry arena.old arena.new removed.old removed.new pieces) }
     ensures home { ComesHome arena.old.places arena.new.places (Some work.entry) }
     ensures begun { arena.new.begun ≡ arena.old.begun }
     ensures ticks { steps.new ≤ steps.old + vec_len work.entry.later }
@@ -157,7 +162,8 @@ fn stand_for<L: Ledger>(
 ) -> Result<PieceList, NoMemory>
     requires under_way { IsSome arena.old.begun }
     requires lent { WorkIsLent arena.old.places work }
-    ensures ok { IfOk result (λ pieces. StandsForAny level low node work.entry arena.old arena.new removed.old removed.new pieces) }
+    ensures ok { IfOk result (λ pieces.
+        StandsForAny level low node work.entry arena.old arena.new removed.old removed.new pieces) }
     ensures home { ComesHome arena.old.places arena.new.places work.entry }
     ensures begun { arena.new.begun ≡ arena.old.begun }
     ensures ticks { steps.new ≤ steps.old + later_count work.entry }
@@ -199,8 +205,8 @@ fn finish<L: Ledger>(
     Ok(())
 }
 
-/// Lends the nodes of all parents that are made anew, a step for each. The tasks stand in the other order. `NoMemory` where
-/// memory was refused: the nodes of the tasks that are listed are lent.
+/// Lends the nodes of all parents that are made anew, a step for each. The tasks stand in the other order.
+/// `NoMemory` where memory was refused: the nodes of the tasks that are listed are lent.
 pub fn lend_all<'a, L: Ledger>(
     arena: &mut Arena,
     planned: Vec<Planned<'a>>,
@@ -227,8 +233,8 @@ pub fn lend_all<'a, L: Ledger>(
     Ok(())
 }
 
-/// Ends the work on all nodes, the last task first, and lists what became of them. Where memory is refused, the tasks that
-/// are left still have their leases.
+/// Ends the work on all nodes, the last task first, and lists what became of them. Where memory is refused, the
+/// tasks that are left still have their leases.
 pub fn finish_all<L: Ledger>(
     alloc: Global,
     arena: &mut Arena,

@@ -1,4 +1,5 @@
-//! The look-ups of a batch that no edit of the batch meets: they are answered on the tree as it stands before the batch.
+//! The look-ups of a batch that no edit of the batch meets: they are answered on the tree as it stands before the
+//! batch.
 #![tactic(auto)]
 
 mod edit_keys;

@@ -26,7 +26,8 @@ const LEAST_CALLS: usize = 2_048;
 // Takes an answer back where an edit at one of the sorted keys could change it.
 fn take_back(keys: &[u64], entry: &Entry, answer: &mut Option<Reply>)
     requires sorted { IsSorted nat_cmp keys.now }
-    ensures { (rows : List Row) → answer.old ≡ looked rows entry.now → IsJudged rows keys.now entry.now answer.new }
+    ensures { (rows : List Row) → answer.old ≡ looked rows entry.now
+        → IsJudged rows keys.now entry.now answer.new }
 {
     let Some(reply) = answer else {
         return;
@@ -43,7 +44,8 @@ fn answer_share(
     entries: &[Entry],
 ) -> Result<Vec<Option<Reply>>, NoMemory>
     requires sorted { IsSorted nat_cmp keys.now }
-    ensures { IfOk result (λ answers. AllZip (IsJudged (rows_of (tree_in tree.now)) keys.now) entries.now answers.items) }
+    ensures { IfOk result (λ answers.
+        AllZip (IsJudged (rows_of (tree_in tree.now)) keys.now) entries.now answers.items) }
 {
     let mut answers = tree.answer_look_ups(entries)?;
     for i in 0..entries.len() {
@@ -64,14 +66,18 @@ struct LookWork<'a> {
 impl<'a> Job for LookWork<'a> {
     ghost ready = { λ work. IsSorted nat_cmp work.keys.now };
 
-    ghost ran = { λ before after. IfOk after.answers (λ answers. AllZip (IsJudged (rows_of (tree_in before.tree.now)) before.keys.now) before.entries.now answers.items) };
+    ghost ran = { λ before after.
+        IfOk after.answers (λ answers.
+        AllZip (IsJudged (rows_of (tree_in before.tree.now)) before.keys.now) before.entries.now
+        answers.items) };
 
     fn run(&mut self) {
         self.answers = answer_share(self.tree, self.keys, self.entries);
     }
 }
 
-// In how many shares calls are answered: in two where there are two calls and workers, and in one more for each so many calls.
+// In how many shares calls are answered: in two where there are two calls and workers, and in one more for each so
+// many calls.
 fn share_count(calls: usize, workers: u32) -> usize
     requires { 1 ≤ workers }
     ensures { 1 ≤ result }
@@ -86,8 +92,11 @@ fn works_of<'a>(
     keys: &'a [u64],
     shares: Vec<&'a [Entry]>,
 ) -> Result<Vec<Option<LookWork<'a>>>, NoMemory>
-    ensures entries { IfOk result (λ works. map entries_of works.items ≡ map (λ share. share.now) shares.entry.items) }
-    ensures begin { IfOk result (λ works. AllByRecursion (Holds (λ work. (work.tree.now ≡ tree.now) × (work.keys.now ≡ keys.now))) works.items) }
+    ensures entries { IfOk result (λ works.
+        map entries_of works.items ≡ map (λ share. share.now) shares.entry.items) }
+    ensures begin { IfOk result (λ works.
+        AllByRecursion (Holds (λ work. (work.tree.now ≡ tree.now) × (work.keys.now ≡ keys.now)))
+        works.items) }
 {
     let mut works = Vec::with_capacity(alloc, shares.len())?;
     for entries in shares {
@@ -133,10 +142,11 @@ fn join(alloc: Global, mut works: Vec<Option<LookWork<'_>>>) -> Result<Vec<Optio
     append_all(alloc, works)
 }
 
-/// Answers the look-ups of a batch that no edit of the batch meets, each on the tree as it stands before the batch, by at most
-/// `workers` workers beside each other; before each share its worker passes the gate. Nothing is said of the reply to an edit, nor
-/// of that to a look-up which an edit of the batch could change: a Get by an edit of its prefix, a Rate by one of a front of its
-/// number with as many digits as its row or more, and a List by one in its range, up to the row at which it reaches its limit.
+/// Answers the look-ups of a batch that no edit of the batch meets, each on the tree as it stands before the batch,
+/// by at most `workers` workers beside each other; before each share its worker passes the gate. Nothing is said of
+/// the reply to an edit, nor of that to a look-up which an edit of the batch could change: a Get by an edit of its
+/// prefix, a Rate by one of a front of its number with as many digits as its row or more, and a List by one in its
+/// range, up to the row at which it reaches its limit.
 ///
 /// `NoMemory` where room was refused.
 pub fn answer_unmet<R: Threads + Sync, G: Gate + Sync>(
@@ -148,8 +158,10 @@ pub fn answer_unmet<R: Threads + Sync, G: Gate + Sync>(
 ) -> Result<Vec<Option<Reply>>, NoMemory>
     requires some { 1 ≤ workers }
     requires few { workers ≤ MOST_WORKERS }
-    ensures known { IfOk result (λ answers. AllZip IsKnown answers.items (replies_to (rows_of (tree_in tree.now)) batch.now)) }
-    ensures unmet { IfOk result (λ answers. AllZip (IsKnownUnlessMet (rows_of (tree_in tree.now)) batch.now) answers.items batch.now) }
+    ensures known { IfOk result (λ answers.
+        AllZip IsKnown answers.items (replies_to (rows_of (tree_in tree.now)) batch.now)) }
+    ensures unmet { IfOk result (λ answers.
+        AllZip (IsKnownUnlessMet (rows_of (tree_in tree.now)) batch.now) answers.items batch.now) }
 {
     let alloc = tree.arena.allocator();
     let keys = edit_keys(alloc, batch)?;

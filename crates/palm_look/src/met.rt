@@ -29,7 +29,8 @@ fn has_between(keys: &[u64], from: u64, to: u64) -> bool
 fn has_front_from(keys: &[u64], number: &Digits, least: u32) -> bool
     requires sorted { IsSorted nat_cmp keys.now }
     requires some { 1 ≤ least }
-    ensures { MatchBool result (HasOne (IsFrontKey least number.now) keys.now) (HasNone (IsFrontKey least number.now) keys.now) }
+    ensures { MatchBool result (HasOne (IsFrontKey least number.now) keys.now)
+        (HasNone (IsFrontKey least number.now) keys.now) }
 {
     for digits in least..=number.len() {
         if has_key(keys, number.front(digits).key()) {
@@ -39,11 +40,13 @@ fn has_front_from(keys: &[u64], number: &Digits, least: u32) -> bool
     false
 }
 
-// The same. Only where there are keys in the range that the keys of these fronts lie in are the fronts looked for one by one.
+// The same. Only where there are keys in the range that the keys of these fronts lie in are the fronts looked for
+// one by one.
 fn has_front(keys: &[u64], number: &Digits, least: u32) -> bool
     requires sorted { IsSorted nat_cmp keys.now }
     requires some { 1 ≤ least }
-    ensures front { MatchBool result (HasOne (IsFrontKey least number.now) keys.now) (HasNone (IsFrontKey least number.now) keys.now) }
+    ensures front { MatchBool result (HasOne (IsFrontKey least number.now) keys.now)
+        (HasNone (IsFrontKey least number.now) keys.now) }
     ensures prefix { IsPrefix number.now }
 {
     if least > number.len() {
@@ -65,7 +68,8 @@ fn digits_hit(reply: &Reply) -> u32
     }
 }
 
-// The last key that matters to a List by its rows: that of the row at which it reached its limit, and else that of its last prefix.
+// The last key that matters to a List by its rows: that of the row at which it reached its limit, and else that of
+// its last prefix.
 fn last_listed(to: &Digits, limit: Limit, rows: &RowList) -> u64
     ensures { result ≡ last_listed (key to.now) limit rows.now }
 {
@@ -89,7 +93,8 @@ fn last_replied(to: &Digits, limit: Limit, reply: &Reply) -> u64
 /// Whether one of the sorted keys matters to the reply to a call, so that an edit at it could change the reply.
 pub(crate) fn is_met(keys: &[u64], call: &Call, reply: &Reply) -> bool
     requires sorted { IsSorted nat_cmp keys.now }
-    ensures met { MatchBool result (HasOne (MattersTo call.now reply.now) keys.now) (HasNone (MattersTo call.now reply.now) keys.now) }
+    ensures met { MatchBool result (HasOne (MattersTo call.now reply.now) keys.now)
+        (HasNone (MattersTo call.now reply.now) keys.now) }
     ensures digits { RatesDigits call.now }
 {
     match call {

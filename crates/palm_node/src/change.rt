@@ -23,8 +23,8 @@ pub struct Change {
     pub pieces: PieceList,
 }
 
-/// An inner node that a pass removed since too few children were left to it. The children still stand below it. A removed leaf,
-/// and an inner node that was left with none, are dropped at once and not listed.
+/// An inner node that a pass removed since too few children were left to it. The children still stand below it. A
+/// removed leaf, and an inner node that was left with none, are dropped at once and not listed.
 #[derive(Clone, Copy, Debug, PartialEq, Eq)]
 pub struct Removed {
     /// Its level, counted from the leaves at 1.

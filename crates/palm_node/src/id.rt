@@ -10,8 +10,8 @@ pub struct NodeId {
 /// One of the nodes that stand for an old one, as the level above is told of it.
 #[derive(Clone, Copy, Debug, PartialEq, Eq)]
 pub struct Piece {
-    /// The packed key at which its range begins: the separator to its left in the node above, and 0 of a first child, which has
-    /// none.
+    /// The packed key at which its range begins: the separator to its left in the node above, and 0 of a first
+    /// child, which has none.
     pub low: u64,
     /// Its place in the arena.
     pub id: NodeId,

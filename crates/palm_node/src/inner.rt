@@ -1,14 +1,15 @@
-// An inner node: up to `MOST_CHILDREN` children, and between each two of them a separator, the key at which the right one
-// begins. Here is one of the children a, b and c, with the keys of 2 and 44 between them:
+// An inner node: up to `MOST_CHILDREN` children, and between each two of them a separator, the key at which the
+// right one begins. Here is one of the children a, b and c, with the keys of 2 and 44 between them:
 //
 //     children           a                  | b                  | c | -  ..  -     128 bytes
 //     how many children  3                                                            8 bytes
 //     separators         0x2000000000000001 | 0x4400000000000002 | -  ..  -         128 bytes
 //
-// So prefixes that stand before 2 are in a, those from 2 on in b, and those from 44 on in c. It is 264 bytes wide. The
-// separators stand side by side in words, so that a search compares eight of them at once where they are. One word fewer
-// counts than there are children, and the last one never does: it makes the room a multiple of eight.
-ghost use Rattle.std.specs.Prelude.{◌≡◌, ◌≤◌, ◌<◌, ◌+◌, [], ◌∷◌, length, map, take, count_by, nat_le, slice_get, Some};
+// So prefixes that stand before 2 are in a, those from 2 on in b, and those from 44 on in c. It is 264 bytes wide.
+// The separators stand side by side in words, so that a search compares eight of them at once where they are. One
+// word fewer counts than there are children, and the last one never does: it makes the room a multiple of eight.
+ghost use Rattle.std.specs.Prelude.{◌≡◌, ◌≤◌, ◌<◌, ◌+◌, [], ◌∷◌, length, map, take};
+ghost use Rattle.std.specs.Prelude.{count_by, nat_le, slice_get, Some};
 ghost use Rattle.std.specs.List.Sorted.{IsStrictlyIncreasing};
 ghost use Rattle.palm_node.specs.InnerNode.{IsInner, later_lows, inner_over};
 

@@ -4,9 +4,11 @@
 //     rates           12                 | 15                 | 9                  | -  ..  -     128 bytes
 //     how many rates  3                                                                             8 bytes
 //
-// It is 264 bytes wide. The keys stand side by side in words, so that a look-up compares eight of them at once where they
-// are, and as many of them count as there are rates. A row's prefix is made of its key again, at no cost.
-ghost use Rattle.std.specs.Prelude.{◌≡◌, ◌≤◌, ◌<◌, ◌==◌, ◌+◌, ◌++◌, length, take, slice_get, Some, OnOk, OnErr, vec_len, vec_capacity};
+// It is 264 bytes wide. The keys stand side by side in words, so that a look-up compares eight of them at once
+// where they are, and as many of them count as there are rates. A row's prefix is made of its key again, at no
+// cost.
+ghost use Rattle.std.specs.Prelude.{◌≡◌, ◌≤◌, ◌<◌, ◌==◌, ◌+◌, ◌++◌, length, take};
+ghost use Rattle.std.specs.Prelude.{slice_get, Some, OnOk, OnErr, vec_len, vec_capacity};
 ghost use Rattle.std.specs.List.{AllByRecursion};
 ghost use Rattle.arrayvec.specs.ArrayVec.{array_vec_len};
 ghost use Rattle.palm_base.specs.Key.{IsKey};

@@ -1,5 +1,5 @@
-//! The nodes of the table's tree: leaves and inner nodes of fixed room, which take no memory of their own, how a list is
-//! cut among them, and what a pass over the tree says of a node.
+//! The nodes of the table's tree: leaves and inner nodes of fixed room, which take no memory of their own, how a
+//! list is cut among them, and what a pass over the tree says of a node.
 #![tactic(auto)]
 
 mod change;

@@ -1,5 +1,6 @@
 // The way down to a node, kept in fixed room.
-ghost use Rattle.std.specs.Prelude.{◌≡◌, ◌<◌, ◌≤◌, ◌++◌, ◌∷◌, [], length, ◌==◌, slice_get, Some};
+ghost use Rattle.std.specs.Prelude.{◌≡◌, ◌<◌, ◌≤◌, ◌++◌, ◌∷◌, [], length, ◌==◌};
+ghost use Rattle.std.specs.Prelude.{slice_get, Some};
 
 use crate::id::NodeId;
 use arrayvec::ArrayVec;

@@ -163,8 +163,8 @@ fn assert_increase(rt: &impl Abort, seps: &[u64])
     }
 }
 
-// Below the separator at a place the child to its left is asked, and from it on the one to its right, where the node has
-// so many children.
+// Below the separator at a place the child to its left is asked, and from it on the one to its right, where the
+// node has so many children.
 fn assert_routes(rt: &impl Abort, inner: &Inner) {
     let last = inner.len() - 1;
     for (i, separator) in SEPARATORS.iter().enumerate() {

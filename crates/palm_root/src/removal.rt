@@ -1,4 +1,5 @@
-// The orphans of a pass: the rows of removed leaves, and all rows under removed inner nodes, which are taken out of the arena.
+// The orphans of a pass: the rows of removed leaves, and all rows under removed inner nodes, which are taken out of
+// the arena.
 ghost use Rattle.std.specs.Prelude.{◌≡◌, List, OnOk, IfOk, IsSome};
 ghost use Rattle.palm_base.specs.Pass.{orphans_of};
 ghost use Rattle.palm_base.specs.declared.row.Row.{Row};
@@ -35,8 +36,12 @@ fn children_of(inner: &Inner) -> ArrayVec<NodeId, MOST_CHILDREN>
 fn sweep(arena: &mut Arena, id: NodeId, below: u32, rows: &mut Vec<Row>) -> Result<(), NoMemory>
     requires under_way { IsSome arena.old.begun }
     requires none_lent { NoneLent arena.old.places }
-    requires stands { (kept : Kept) × (others : List Cell) × StandsIn (map_of arena.old.places) below id kept others }
-    ensures swept { OnOk result ((kept : Kept) (others : List Cell) → StandsIn (map_of arena.old.places) below id kept others → IsSwept (map_of arena.new.places) rows.old.items rows.new.items kept others) }
+    requires stands { (kept : Kept) × (others : List Cell)
+        × StandsIn (map_of arena.old.places) below id kept others }
+    ensures swept { OnOk result
+        ((kept : Kept) (others : List Cell)
+        → StandsIn (map_of arena.old.places) below id kept others
+        → IsSwept (map_of arena.new.places) rows.old.items rows.new.items kept others) }
     ensures begun { arena.new.begun ≡ arena.old.begun }
     ensures moved { arena.new.moved ≡ arena.old.moved }
     ensures none_lent { NoneLent arena.new.places }
@@ -60,8 +65,14 @@ fn sweep(arena: &mut Arena, id: NodeId, below: u32, rows: &mut Vec<Row>) -> Resu
 fn sweep_all(arena: &mut Arena, removed: &[Removed], rows: &mut Vec<Row>) -> Result<(), NoMemory>
     requires under_way { IsSome arena.old.begun }
     requires none_lent { NoneLent arena.old.places }
-    requires stands { (kept : List Kept) × (others : List Cell) × (removed.now ≡ map removed_of kept) × AreSwept (map_of arena.old.places) rows.old.items rows.old.items kept others 0 }
-    ensures swept { OnOk result ((kept : List Kept) (others : List Cell) → removed.now ≡ map removed_of kept → AreSwept (map_of arena.old.places) rows.old.items rows.old.items kept others 0 → AreSwept (map_of arena.new.places) rows.old.items rows.new.items kept others (length kept)) }
+    requires stands { (kept : List Kept) × (others : List Cell)
+        × (removed.now ≡ map removed_of kept)
+        × AreSwept (map_of arena.old.places) rows.old.items rows.old.items kept others 0 }
+    ensures swept { OnOk result
+        ((kept : List Kept) (others : List Cell) → removed.now ≡ map removed_of kept
+        → AreSwept (map_of arena.old.places) rows.old.items rows.old.items kept others 0
+        → AreSwept (map_of arena.new.places) rows.old.items rows.new.items kept others
+        (length kept)) }
     ensures begun { arena.new.begun ≡ arena.old.begun }
     ensures moved { arena.new.moved ≡ arena.old.moved }
     ensures none_lent { NoneLent arena.new.places }
@@ -81,17 +92,25 @@ fn sort_rows(rows: &mut [Row])
     rows.sort_unstable_by_key(|row| row.prefix.key());
 }
 
-/// The orphans of a pass, whose changes these are: the rows that they leave loose, and all rows under the nodes that they
-/// removed, in rising order. These nodes and all that is under them are dropped, and every other node stays.
+/// The orphans of a pass, whose changes these are: the rows that they leave loose, and all rows under the nodes
+/// that they removed, in rising order. These nodes and all that is under them are dropped, and every other node
+/// stays.
 ///
-/// `NoMemory` where room for the rows or for the batch's notes was refused. The batch is still under way then, and rolling
-/// back gives what it would have given before.
+/// `NoMemory` where room for the rows or for the batch's notes was refused. The batch is still under way then, and
+/// rolling back gives what it would have given before.
 pub fn orphans(alloc: Global, arena: &mut Arena, changes: &Changes) -> Result<RowList, NoMemory>
     requires under_way { IsSome arena.old.begun }
     requires none_lent { NoneLent arena.old.places }
-    requires removed { (loose : List Row) × (others : List Cell) × HoldsRemoved loose others (map_of arena.old.places) changes.now }
-    ensures rows { IfOk result (λ rows. (p : Pass) (others : List Cell) → IsPass p → HoldsRemoved (outcome_of p).loose others (map_of arena.old.places) changes.now → rows ≡ orphans_of (value_of p.tree) p.edits) }
-    ensures dropped { OnOk result ((loose : List Row) (others : List Cell) → HoldsRemoved loose others (map_of arena.old.places) changes.now → Owns (map_of arena.new.places) others) }
+    requires removed { (loose : List Row) × (others : List Cell)
+        × HoldsRemoved loose others (map_of arena.old.places) changes.now }
+    ensures rows { IfOk result (λ rows.
+        (p : Pass) (others : List Cell) → IsPass p
+        → HoldsRemoved (outcome_of p).loose others (map_of arena.old.places) changes.now
+        → rows ≡ orphans_of (value_of p.tree) p.edits) }
+    ensures dropped { OnOk result
+        ((loose : List Row) (others : List Cell)
+        → HoldsRemoved loose others (map_of arena.old.places) changes.now
+        → Owns (map_of arena.new.places) others) }
     ensures begun { arena.new.begun ≡ arena.old.begun }
     ensures moved { arena.new.moved ≡ arena.old.moved }
     ensures none_lent { NoneLent arena.new.places }

@@ -1,8 +1,9 @@
 // The root of a tree after a pass: over what the pass leaves below the old one.
 //
-// Where what is left is as it was, the root stays. Else it goes, and what is left has new levels over it, up to one node that
-// is the root: of no pieces it is an empty leaf, and one piece is the root itself.
-ghost use Rattle.std.specs.Prelude.{◌≡◌, ◌+◌, ◌-◌, ◌*◌, ◌≤◌, ◌<◌, ◌∷◌, true, length, ℕ, IfOk, OnOk, IsSome, Some, MatchOption};
+// Where what is left is as it was, the root stays. Else it goes, and what is left has new levels over it, up to one
+// node that is the root: of no pieces it is an empty leaf, and one piece is the root itself.
+ghost use Rattle.std.specs.Prelude.{◌≡◌, ◌+◌, ◌-◌, ◌*◌, ◌≤◌, ◌<◌, ◌∷◌, true};
+ghost use Rattle.std.specs.Prelude.{length, ℕ, IfOk, OnOk, IsSome, Some, MatchOption};
 ghost use Rattle.palm_node.specs.declared.change.Change.{Change};
 ghost use Rattle.palm_arena.specs.ArenaState.{NoneLent, IsHeld};
 ghost use Rattle.palm_arena.specs.Reads.{map_of};
@@ -44,7 +45,9 @@ fn find_left(
     changes: &Changes,
 ) -> Result<Option<PieceList>, NoMemory>
     requires stands { (p : Pass) × StandsBelow p (map_of arena.now.places) shape changes.now }
-    ensures found { IfOk result (λ left. (p : Pass) → StandsBelow p (map_of arena.now.places) shape changes.now → IsFound p (map_of arena.now.places) changes.now shape left) }
+    ensures found { IfOk result (λ left.
+        (p : Pass) → StandsBelow p (map_of arena.now.places) shape changes.now
+        → IsFound p (map_of arena.now.places) changes.now shape left) }
     ensures few { IfOk result (λ left. (n : ℕ) → IsWithin n changes.now → IsFew n left) }
 {
     if shape.levels <= 1 {
@@ -65,7 +68,9 @@ fn drop_root(arena: &mut Arena, shape: Shape) -> Result<(), NoMemory>
     requires under_way { IsSome arena.old.begun }
     requires none_lent { NoneLent arena.old.places }
     requires held { 1 < shape.levels → IsHeld arena.old.places shape.root }
-    ensures dropped { OnOk result (Turns (map_of arena.old.places) (map_of arena.new.places) (root_cells (map_of arena.old.places) shape) []) }
+    ensures dropped { OnOk result
+        (Turns (map_of arena.old.places) (map_of arena.new.places)
+        (root_cells (map_of arena.old.places) shape) []) }
     ensures begun { arena.new.begun ≡ arena.old.begun }
     ensures moved { arena.new.moved ≡ arena.old.moved }
     ensures none_lent { NoneLent arena.new.places }
@@ -81,7 +86,10 @@ fn drop_root(arena: &mut Arena, shape: Shape) -> Result<(), NoMemory>
 fn take_leaf<L: Ledger>(arena: &mut Arena, steps: &mut Steps<L>) -> Result<Shape, NoMemory>
     requires under_way { IsSome arena.old.begun }
     requires none_lent { NoneLent arena.old.places }
-    ensures taken { IfOk result (λ shape. (shape.levels ≡ 1) × Turns (map_of arena.old.places) (map_of arena.new.places) [] ((shape.root, node.Leaf []) ∷ [])) }
+    ensures taken { IfOk result (λ shape.
+        (shape.levels ≡ 1)
+        × Turns (map_of arena.old.places) (map_of arena.new.places) []
+        ((shape.root, node.Leaf []) ∷ [])) }
     ensures begun { arena.new.begun ≡ arena.old.begun }
     ensures none_lent { NoneLent arena.new.places }
     ensures ticks { steps.new ≡ steps.old + 1 }
@@ -102,8 +110,12 @@ fn put_root<L: Ledger>(
     requires under_way { IsSome arena.old.begun }
     requires none_lent { NoneLent arena.old.places }
     requires most { below ≤ MOST_LEVELS }
-    requires left { (p : Pass) × (changes : Changes) × HasLeft p [] (map_of arena.old.places) changes below level }
-    ensures repaired { IfOk result (λ shape. (p : Pass) (changes : Changes) → HasLeft p [] (map_of arena.old.places) changes below level → HasCells (map_of arena.old.places) (untouched_in p) → IsRepaired p (map_of arena.new.places) changes shape) }
+    requires left { (p : Pass) × (changes : Changes)
+        × HasLeft p [] (map_of arena.old.places) changes below level }
+    ensures repaired { IfOk result (λ shape.
+        (p : Pass) (changes : Changes) → HasLeft p [] (map_of arena.old.places) changes below level
+        → HasCells (map_of arena.old.places) (untouched_in p)
+        → IsRepaired p (map_of arena.new.places) changes shape) }
     ensures begun { arena.new.begun ≡ arena.old.begun }
     ensures none_lent { NoneLent arena.new.places }
     ensures ticks { HasPut (length level) steps.old steps.new }
@@ -117,11 +129,13 @@ fn put_root<L: Ledger>(
     Ok(shape)
 }
 
-/// Puts a root over what a pass leaves below the old one, and gives the shape of the tree after the pass: of no pieces an empty
-/// leaf, of one piece this itself, and else as many levels of nodes over them as come to one root. A root below which all is at
-/// its place stays. `changes` are those of the level below the root, or of the leaves where the root is one.
+/// Puts a root over what a pass leaves below the old one, and gives the shape of the tree after the pass: of no
+/// pieces an empty leaf, of one piece this itself, and else as many levels of nodes over them as come to one root.
+/// A root below which all is at its place stays. `changes` are those of the level below the root, or of the leaves
+/// where the root is one.
 ///
-/// `NoMemory` where room was refused. The batch is still under way then, and rolling back gives what it would have given before.
+/// `NoMemory` where room was refused. The batch is still under way then, and rolling back gives what it would have
+/// given before.
 pub fn repair<L: Ledger>(
     alloc: Global,
     arena: &mut Arena,
@@ -132,7 +146,9 @@ pub fn repair<L: Ledger>(
     requires under_way { IsSome arena.old.begun }
     requires none_lent { NoneLent arena.old.places }
     requires stands { (p : Pass) × StandsBelow p (map_of arena.old.places) shape changes.now }
-    ensures repaired { IfOk result (λ after. (p : Pass) → StandsBelow p (map_of arena.old.places) shape changes.now → IsRepaired p (map_of arena.new.places) changes.now after) }
+    ensures repaired { IfOk result (λ after.
+        (p : Pass) → StandsBelow p (map_of arena.old.places) shape changes.now
+        → IsRepaired p (map_of arena.new.places) changes.now after) }
     ensures begun { arena.new.begun ≡ arena.old.begun }
     ensures none_lent { NoneLent arena.new.places }
     ensures ticks { (n : ℕ) → IsWithin n changes.now → steps.new ≤ steps.old + 4 * n }

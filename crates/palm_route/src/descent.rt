@@ -28,8 +28,8 @@ fn at_root(shape: Shape, part: &Part) -> Routed
     }
 }
 
-// Walks a part from the root to the leaf whose range has its key. What is known of the way is written where it is to stand,
-// since it is wide.
+// Walks a part from the root to the leaf whose range has its key. What is known of the way is written where it is
+// to stand, since it is wide.
 fn walk(arena: &Arena, shape: Shape, routed: &mut Routed)
     requires tree { HasTree (map_of arena.now.places) shape }
     requires begin { routed.old ≡ record { part = routed.old.part; leaf = shape.root; path = []; low = 0 } }
@@ -51,7 +51,8 @@ fn walk(arena: &Arena, shape: Shape, routed: &mut Routed)
 fn route(arena: &Arena, shape: Shape, part: &Part, routed: &mut Vec<Routed>)
     requires tree { HasTree (map_of arena.now.places) shape }
     requires room { length routed.old.items < vec_capacity routed.old }
-    ensures ok { RoutesOne (leaves_at (map_of arena.now.places) shape) part.now routed.old.items routed.new.items }
+    ensures ok { RoutesOne (leaves_at (map_of arena.now.places) shape) part.now routed.old.items
+        routed.new.items }
     ensures capacity { vec_capacity routed.new ≡ vec_capacity routed.old }
 {
     routed.push_reserved(at_root(shape, part));
@@ -73,7 +74,10 @@ struct DescentWork<'a> {
 impl<'a> Job for DescentWork<'a> {
     ghost ready = { λ work. HasTree (map_of work.arena.now.places) work.shape × HasRoom work };
 
-    ghost ran = { λ before after. (map (λ one. one.part) after.routed.items ≡ before.parts.now) × AllByRecursion (IsRoutedTo (leaves_at (map_of before.arena.now.places) before.shape)) after.routed.items };
+    ghost ran = { λ before after.
+        (map (λ one. one.part) after.routed.items ≡ before.parts.now)
+        × AllByRecursion (IsRoutedTo (leaves_at (map_of before.arena.now.places) before.shape))
+        after.routed.items };
 
     fn run(&mut self) {
         for part in self.parts {
@@ -93,7 +97,10 @@ fn cut<'a>(
     requires { length parts.now ≡ 0 ⊎ 0 < shares }
     ensures shares { IfOk result (λ works. AreCut parts.now (map share_of works.items)) }
     ensures count { IfOk result (λ works. vec_len works ≡ shares) }
-    ensures begin { IfOk result (λ works. AllByRecursion (Holds (λ work. (work.arena.now ≡ arena.now) × (work.shape ≡ shape) × HasRoom work)) works.items) }
+    ensures begin { IfOk result (λ works.
+        AllByRecursion
+        (Holds (λ work. (work.arena.now ≡ arena.now) × (work.shape ≡ shape) × HasRoom work))
+        works.items) }
 {
     let mut rest = parts;
     let mut works = Vec::with_capacity(alloc, shares)?;
@@ -133,12 +140,13 @@ fn append_all(works: Vec<Option<DescentWork<'_>>>, routed: &mut Vec<Routed>)
     }
 }
 
-// The routed parts of all shares. Those of a single share stay where they are, and those of several are moved to where there
-// is room for them.
+// The routed parts of all shares. Those of a single share stay where they are, and those of several are moved to
+// where there is room for them.
 fn join(mut works: Vec<Option<DescentWork<'_>>>, mut room: Vec<Routed>) -> Vec<Routed>
     requires there { All (Holds (λ _. Unit {0})) works.items }
     requires empty { room.items ≡ [] }
-    requires room { (length works.items ≡ 1 → ⊥) → length (flat_map routed_of works.items) ≤ vec_capacity room }
+    requires room { (length works.items ≡ 1 → ⊥)
+        → length (flat_map routed_of works.items) ≤ vec_capacity room }
     ensures { result.items ≡ flat_map routed_of works.entry.items }
 {
     if works.len() == 1 {
@@ -151,9 +159,10 @@ fn join(mut works: Vec<Option<DescentWork<'_>>>, mut room: Vec<Routed>) -> Vec<R
     room
 }
 
-/// Routes parts down a tree, by at most `workers` workers beside each other: each part to the leaf whose range has its key.
-/// The parts keep their order. They are cut into as many shares as there are workers, or as there are parts where these are
-/// fewer, and no share has two parts more than another. Before each share its worker passes the gate.
+/// Routes parts down a tree, by at most `workers` workers beside each other: each part to the leaf whose range has
+/// its key. The parts keep their order. They are cut into as many shares as there are workers, or as there are
+/// parts where these are fewer, and no share has two parts more than another. Before each share its worker passes
+/// the gate.
 ///
 /// `NoMemory` where room for them was refused, before any worker starts.
 pub fn descend<R: Threads + Sync, G: Gate + Sync>(
@@ -169,7 +178,8 @@ pub fn descend<R: Threads + Sync, G: Gate + Sync>(
     requires some { 1 ≤ workers }
     requires few { workers ≤ MOST_WORKERS }
     ensures parts { IfOk result (λ routed. map (λ one. one.part) routed ≡ parts) }
-    ensures routed { IfOk result (λ routed. AllByRecursion (IsRoutedTo (leaves_at (map_of arena.now.places) shape)) routed) }
+    ensures routed { IfOk result (λ routed.
+        AllByRecursion (IsRoutedTo (leaves_at (map_of arena.now.places) shape)) routed) }
 {
     let shares = parts.len().min(workers as usize);
     let room = Vec::with_capacity(alloc, room_beside(parts.len(), shares))?;

@@ -6,7 +6,8 @@ ghost use Rattle.palm_base.specs.Key.{key};
 ghost use Rattle.palm_node.specs.declared.id.NodeId.{NodeId};
 ghost use Rattle.std.specs.List.{AllByRecursion};
 ghost use Rattle.palm_route.specs.Edits.{EditsPrefix};
-ghost use Rattle.palm_route.specs.Parts.{lows_of, is_later, list_keys, front_keys, parts_by_keys, parts_of_call, parts_of};
+ghost use Rattle.palm_route.specs.Parts.{lows_of, is_later, list_keys, front_keys, parts_by_keys, parts_of_call};
+ghost use Rattle.palm_route.specs.Parts.{parts_of};
 ghost use Rattle.palm_route.specs.Ranges.{HasRange};
 ghost use Rattle.palm_route.specs.declared.part.Ask.TheVariants as ask;
 
@@ -23,7 +24,8 @@ struct Span {
     to: u64,
 }
 
-// Appends the lows of the leaves below a node that lie above `from` and not above `to`. The node's own range begins at `low`.
+// Appends the lows of the leaves below a node that lie above `from` and not above `to`. The node's own range begins
+// at `low`.
 fn append_lows(
     arena: &Arena,
     id: NodeId,
@@ -33,7 +35,10 @@ fn append_lows(
     keys: &mut Vec<u64>,
 ) -> Result<(), NoMemory>
     requires node { HasRange (map_of arena.now.places) below low id }
-    ensures ok { OnOk result ((path : List (NodeId × ℕ)) → keys.new.items ≡ keys.old.items ++ filter (is_later span.now.from span.now.to) (lows_of (leaves_under (map_of arena.now.places) below path low id))) }
+    ensures ok { OnOk result
+        ((path : List (NodeId × ℕ))
+        → keys.new.items ≡ keys.old.items ++ filter (is_later span.now.from span.now.to)
+        (lows_of (leaves_under (map_of arena.now.places) below path low id))) }
 {
     let inner = match arena.read(id) {
         Node::Leaf(_) => return append_low(low, span, keys),
@@ -51,7 +56,9 @@ fn append_lows(
 
 // Appends a leaf's low where it lies above `from` and not above `to`.
 fn append_low(low: u64, span: &Span, keys: &mut Vec<u64>) -> Result<(), NoMemory>
-    ensures ok { OnOk result (keys.new.items ≡ keys.old.items ++ filter (is_later span.now.from span.now.to) (low ∷ [])) }
+    ensures ok { OnOk result
+        (keys.new.items ≡ keys.old.items ++ filter (is_later span.now.from span.now.to)
+        (low ∷ [])) }
 {
     if span.from < low && low <= span.to {
         keys.push(low)?;
@@ -62,7 +69,9 @@ fn append_low(low: u64, span: &Span, keys: &mut Vec<u64>) -> Result<(), NoMemory
 // Puts the keys by which a List is routed in place of those that stand there.
 fn put_keys(arena: &Arena, shape: Shape, span: &Span, keys: &mut Vec<u64>) -> Result<(), NoMemory>
     requires tree { HasTree (map_of arena.now.places) shape }
-    ensures { OnOk result (keys.new.items ≡ list_keys span.now.from span.now.to (lows_of (leaves_at (map_of arena.now.places) shape))) }
+    ensures { OnOk result
+        (keys.new.items ≡ list_keys span.now.from span.now.to
+        (lows_of (leaves_at (map_of arena.now.places) shape))) }
 {
     keys.clear();
     if span.from > span.to {
@@ -81,7 +90,8 @@ fn append_list(
     limit: Limit,
     parts: &mut PartList,
 ) -> Result<(), NoMemory>
-    ensures ok { OnOk result (parts.new ≡ parts.old ++ parts_by_keys entry 0 (ask.List from to limit) keys.now) }
+    ensures ok { OnOk result
+        (parts.new ≡ parts.old ++ parts_by_keys entry 0 (ask.List from to limit) keys.now) }
 {
     for (i, key) in keys.iter().enumerate() {
         let ask = Ask::List { from, to, limit };
@@ -97,7 +107,8 @@ fn append_list(
 
 // Appends a part for each front of a number, the shortest first.
 fn append_fronts(entry: u64, number: &Digits, parts: &mut PartList) -> Result<(), NoMemory>
-    ensures ok { OnOk result (parts.new ≡ parts.old ++ parts_by_keys entry 0 ask.Look (front_keys number.now)) }
+    ensures ok { OnOk result
+        (parts.new ≡ parts.old ++ parts_by_keys entry 0 ask.Look (front_keys number.now)) }
 {
     for i in 0..number.len() {
         let key = number.front(i + 1).key();
@@ -121,7 +132,9 @@ fn append_call(
     parts: &mut PartList,
 ) -> Result<(), NoMemory>
     requires tree { HasTree (map_of arena.now.places) shape }
-    ensures ok { OnOk result (parts.new ≡ parts.old ++ parts_of_call (leaves_at (map_of arena.now.places) shape) entry call.now) }
+    ensures ok { OnOk result
+        (parts.new ≡ parts.old ++ parts_of_call (leaves_at (map_of arena.now.places) shape)
+        entry call.now) }
     ensures prefix { EditsPrefix call.now }
 {
     match call {
@@ -155,8 +168,9 @@ fn append_call(
     }
 }
 
-/// Splits the calls of a batch into parts, in order. A Set, a Del or a Get is one part. A Rate is a part for each front of its
-/// number, the shortest first. A List is a part for each leaf of the tree whose range has one of its keys.
+/// Splits the calls of a batch into parts, in order. A Set, a Del or a Get is one part. A Rate is a part for each
+/// front of its number, the shortest first. A List is a part for each leaf of the tree whose range has one of its
+/// keys.
 ///
 /// `NoMemory` where room for them was refused.
 pub fn expand(
@@ -166,7 +180,8 @@ pub fn expand(
     batch: &[Entry],
 ) -> Result<PartList, NoMemory>
     requires tree { HasTree (map_of arena.now.places) shape }
-    ensures parts { IfOk result (λ parts. parts ≡ parts_of (leaves_at (map_of arena.now.places) shape) 0 batch.now) }
+    ensures parts { IfOk result (λ parts.
+        parts ≡ parts_of (leaves_at (map_of arena.now.places) shape) 0 batch.now) }
     ensures prefixes { OnOk result (AllByRecursion (λ entry. EditsPrefix entry.call) batch.now) }
 {
     let mut parts = PartList::from_vec(Vec::with_capacity(alloc, batch.len())?);

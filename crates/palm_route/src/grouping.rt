@@ -1,5 +1,6 @@
 // Parts put together by leaf.
-ghost use Rattle.std.specs.Prelude.{◌≡◌, ◌<◌, List, length, map, ◌≤◌, IfOk, OnOk, IsPermutation, IsSortedByKey};
+ghost use Rattle.std.specs.Prelude.{◌≡◌, ◌<◌, List, length, map, ◌≤◌, IfOk, OnOk, IsPermutation};
+ghost use Rattle.std.specs.Prelude.{IsSortedByKey};
 ghost use Rattle.std.specs.List.{AllByRecursion};
 ghost use Rattle.std.specs.List.Sorted.{IsStableByKey};
 ghost use Rattle.std.specs.Ordering.{nat_cmp};
@@ -18,8 +19,8 @@ use std::thread::Threads;
 // From so many marks on several threads sort them.
 const MANY_MARKS: usize = 16_384;
 
-// Where a part stands, and where the range of its leaf begins. Marks are sorted in place of parts, which are many times as
-// wide.
+// Where a part stands, and where the range of its leaf begins. Marks are sorted in place of parts, which are many
+// times as wide.
 #[derive(Clone, Copy, Drop)]
 struct Mark {
     low: u64,
@@ -60,8 +61,8 @@ fn sort_many<R: Threads + Sync>(rt: &R, alloc: Global, marks: &mut [Mark]) -> Re
     par_sort_by_key(rt, alloc, marks, |mark| mark.low)
 }
 
-// The same. The system's threads are asked only where there are several workers and many marks: asking how many there may be takes
-// longer than a sort of a few.
+// The same. The system's threads are asked only where there are several workers and many marks: asking how many
+// there may be takes longer than a sort of a few.
 fn sort<R: Threads + Sync>(
     rt: &R,
     alloc: Global,
@@ -118,8 +119,8 @@ fn group_of(alloc: Global, routed: &Routed, marks: &[Mark]) -> Result<Group, NoM
     })
 }
 
-// Puts a part to the last group where that is its leaf's, and else in a group of its own. The marks are the part's own and
-// those behind it.
+// Puts a part to the last group where that is its leaf's, and else in a group of its own. The marks are the part's
+// own and those behind it.
 fn add(
     alloc: Global,
     groups: &mut Vec<Group>,
@@ -150,18 +151,20 @@ fn runs(alloc: Global, routed: &[Routed], marks: &[Mark]) -> Result<Groups, NoMe
     Ok(Groups::from_vec(groups))
 }
 
-/// Puts routed parts together by leaf. The groups stand in the order of the leaves, and the parts of a group in the order in
-/// which they are given. `NoMemory` where room for them was refused.
+/// Puts routed parts together by leaf. The groups stand in the order of the leaves, and the parts of a group in the
+/// order in which they are given. `NoMemory` where room for them was refused.
 ///
-/// Where there is one worker, or fewer than 16,384 parts, this thread sorts alone. Else rayon's threads sort. How many they
-/// are follows from how many the system has, and not from `workers`.
+/// Where there is one worker, or fewer than 16,384 parts, this thread sorts alone. Else rayon's threads sort. How
+/// many they are follows from how many the system has, and not from `workers`.
 pub fn group<R: Threads + Sync>(
     rt: &R,
     alloc: Global,
     routed: RoutedList,
     workers: u32,
 ) -> Result<Groups, NoMemory>
-    ensures { IfOk result (λ groups. (places : List LeafPlace) → LowsRise places → AllByRecursion (IsRoutedTo places) routed → groups ≡ groups_of places (map (λ one. one.part) routed)) }
+    ensures { IfOk result (λ groups.
+        (places : List LeafPlace) → LowsRise places → AllByRecursion (IsRoutedTo places) routed
+        → groups ≡ groups_of places (map (λ one. one.part) routed)) }
 {
     let mut marks = marks_of(alloc, routed.as_slice())?;
     sort(rt, alloc, marks.as_mut_slice(), workers)?;

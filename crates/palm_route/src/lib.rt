@@ -1,5 +1,5 @@
-//! Which leaves of a tree the calls of a batch touch: each call is split into parts that ask one leaf each, the parts are
-//! routed down the tree, and those of a leaf are put together.
+//! Which leaves of a tree the calls of a batch touch: each call is split into parts that ask one leaf each, the
+//! parts are routed down the tree, and those of a leaf are put together.
 #![tactic(auto)]
 
 mod descent;

@@ -56,7 +56,9 @@ fn read_through<S: Source>(
 ) -> Result<InputEnd, NoMemory>
     requires empty { bytes.old.items ≡ [] }
     requires buffer { 0 < length buf.old }
-    ensures read { IfOk result (λ end. IsRead (S.left src.old) (S.left src.new) (S.faults src.old) (S.faults src.new) bytes.new.items end) }
+    ensures read { IfOk result (λ end.
+        IsRead (S.left src.old) (S.left src.new) (S.faults src.old) (S.faults src.new)
+        bytes.new.items end) }
     ensures few { OnOk result (length bytes.new.items ≤ MOST_BYTES) }
     ensures front { (read : List ℕ) × Consumes (S.left src.old) (S.left src.new) read }
     ensures faults { S.faults src.old ≤ S.faults src.new }
@@ -75,11 +77,12 @@ fn read_through<S: Source>(
 
 /// Reads a source to its end, to its first fault, or to the byte too many, which is dropped.
 ///
-/// No further read is made then. No clause says so of a fault, which may raise a source's count by more than one. A fault of the
-/// source is no error here, but part of the answer.
-/// `NoMemory` leaves the source where it was read to.
+/// No further read is made then. No clause says so of a fault, which may raise a source's count by more than one. A
+/// fault of the source is no error here, but part of the answer. `NoMemory` leaves the source where it was read to.
 pub fn read_input<S: Source>(alloc: Global, src: &mut S) -> Result<Input, NoMemory>
-    ensures read { IfOk result (λ input. IsRead (S.left src.old) (S.left src.new) (S.faults src.old) (S.faults src.new) input.bytes.items input.end) }
+    ensures read { IfOk result (λ input.
+        IsRead (S.left src.old) (S.left src.new) (S.faults src.old) (S.faults src.new)
+        input.bytes.items input.end) }
     ensures few { IfOk result (λ input. length input.bytes.items ≤ MOST_BYTES) }
     ensures front { (read : List ℕ) × Consumes (S.left src.old) (S.left src.new) read }
     ensures faults { S.faults src.old ≤ S.faults src.new }

@@ -1,6 +1,7 @@
 //! Laws of the definitions of scripts and runs. Each function has an empty body: its contract is the law.
 
-ghost use Rattle.palm_script.specs.Laws.{LinesReadBack, FaultsStand, StraightKeepsOrder, CutByCuts, SectionsJoin, StraightIsStormy, TextShowsRun};
+ghost use Rattle.palm_script.specs.Laws.{LinesReadBack, FaultsStand, StraightKeepsOrder, CutByCuts, SectionsJoin};
+ghost use Rattle.palm_script.specs.Laws.{StraightIsStormy, TextShowsRun};
 
 /// What `print_line` prints of a line whose caller is at most `MOST_CALLER` reads, without the line feed, as that line,
 /// wherever in a script it stands.
@@ -34,8 +35,8 @@ pub fn straight_is_stormy()
     ensures { StraightIsStormy }
 {}
 
-/// A transcript determines its run: of all runs of a script in which the callers of a section call beside each other, no
-/// two have one transcript.
+/// A transcript determines its run: of all runs of a script in which the callers of a section call beside each
+/// other, no two have one transcript.
 pub fn text_shows_run()
     ensures { TextShowsRun }
 {}

@@ -1,9 +1,12 @@
-// What a line of a script says, and what may be wrong with one. The numbers of its faults are the codes that the program reports.
-ghost use Rattle.std.specs.Prelude.{◌≡◌, ◌≢◌, ◌≤◌, ◌<◌, ◌∷◌, [], if◌then◌else◌, Ok, Err, length, not, position, MatchOption, IfSome, IfOk, IfErr};
+// What a line of a script says, and what may be wrong with one. The numbers of its faults are the codes that the
+// program reports.
+ghost use Rattle.std.specs.Prelude.{◌≡◌, ◌≢◌, ◌≤◌, ◌<◌, ◌∷◌, [], if◌then◌else◌};
+ghost use Rattle.std.specs.Prelude.{Ok, Err, length, not, position, MatchOption, IfSome, IfOk, IfErr};
 ghost use Rattle.std.specs.List.{position_or_len};
 ghost use Rattle.palm_base.specs.Prefix.{digits_in, is_dialled};
 ghost use Rattle.palm_base.specs.Numbers.{value_of, is_from_to, is_rate};
-ghost use Rattle.palm_script.specs.Line.{is_blank, fields, is_caller, is_limit, set_of, del_of, get_of, rate_of, list_of, call_of, made_by, alone, asked_by, meaning_of, line_of, LineFits};
+ghost use Rattle.palm_script.specs.Line.{is_blank, fields, is_caller, is_limit, set_of, del_of, get_of, rate_of};
+ghost use Rattle.palm_script.specs.Line.{list_of, call_of, made_by, alone, asked_by, meaning_of, line_of, LineFits};
 
 use palm_base::{Amount, Call, Digits, Limit, MOST_LIMIT, number_from_to};
 use std::error::Error;
@@ -114,7 +117,8 @@ fn field_end(text: &[u8]) -> usize
 
 // The first field, and what stands behind it.
 fn next_field(text: &[u8]) -> Option<(&[u8], &[u8])>
-    ensures next { MatchOption result (fields text.now ≡ []) (λ x. fields text.now ≡ x.0.now ∷ fields x.1.now) }
+    ensures next { MatchOption result (fields text.now ≡ []) (λ x.
+        fields text.now ≡ x.0.now ∷ fields x.1.now) }
     ensures some { IfSome result (λ x. 0 < length x.0.now) }
 {
     let start = field_start(text);
@@ -319,7 +323,8 @@ mod tests {
     use super::*;
     use std::process::Abort;
 
-    // A call's word, and what follows it: the keys of prefixes and numbers, and the rate or the limit where there is one.
+    // A call's word, and what follows it: the keys of prefixes and numbers, and the rate or the limit where there
+    // is one.
     fn parts(call: &Call) -> (&str, u64, Option<u64>, Option<u64>) {
         match call {
             Call::Set { prefix, rate } => ("set", prefix.key(), None, Some(rate.get())),

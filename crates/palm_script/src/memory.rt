@@ -1,5 +1,6 @@
 // Sources and sinks in memory, for tests: what they give, take and refuse is chosen when they are made.
-ghost use Rattle.std.specs.Prelude.{◌≡◌, ◌≤◌, ◌<◌, ◌+◌, ◌-◌, ◌^◌, [], ◌++◌, length, drop, take, min, Contains, Some, ◌⊎◌, IsErr, IfOk, ◌↔◌};
+ghost use Rattle.std.specs.Prelude.{◌≡◌, ◌≤◌, ◌<◌, ◌+◌, ◌-◌, ◌^◌, [], ◌++◌, length};
+ghost use Rattle.std.specs.Prelude.{drop, take, min, Contains, Some, ◌⊎◌, IsErr, IfOk, ◌↔◌};
 ghost use Rattle.std.specs.Io.{ReadsAtMost, WritesAtMost};
 ghost use Rattle.std.specs.Io.KnownBytes.{ReadConsumes, WriteAppends};
 ghost use Rattle.palm_script.specs.Causes.{HasCause};
@@ -37,7 +38,14 @@ impl Model for MemSource {
 
     ghost Value = { Feed };
 
-    ghost view = { λ a. record { left = drop a.place a.bytes.items; most = a.most; fails = a.fails.items; reads = a.reads; faults = a.faults } };
+    ghost view = { λ a.
+        record {
+          left = drop a.place a.bytes.items;
+          most = a.most;
+          fails = a.fails.items;
+          reads = a.reads;
+          faults = a.faults;
+        } };
 
     ghost invariant = { λ a. (a.place ≤ length a.bytes.items) × (1 ≤ a.most) };
 }
@@ -47,7 +55,13 @@ impl MemSource {
     /// from 0, fail and take nothing.
     pub fn new(bytes: Vec<u8>, most: usize, fails: Vec<u64>) -> MemSource
         requires { 1 ≤ most }
-        ensures { result ≡ record { left = bytes.items; most = most; fails = fails.items; reads = 0; faults = 0 } }
+        ensures { result ≡ record {
+          left = bytes.items;
+          most = most;
+          fails = fails.items;
+          reads = 0;
+          faults = 0;
+        } }
     {
         MemSource {
             bytes,
@@ -72,7 +86,8 @@ impl Source for MemSource {
         ensures cause { HasCause self.old.faults self.new.faults result }
 
         ensures fails { IsErr result ↔ Contains self.old.fails self.old.reads }
-        ensures count { IfOk result (λ n. n ≡ min (min self.old.most (length buf.old)) (length self.old.left)) }
+        ensures count { IfOk result (λ n.
+            n ≡ min (min self.old.most (length buf.old)) (length self.old.left)) }
         ensures reads { self.new.reads ≡ min (self.old.reads + 1) (2 ^ 64 - 1) }
         ensures kept { (self.new.fails ≡ self.old.fails) × (self.new.most ≡ self.old.most) }
     {
@@ -146,9 +161,18 @@ impl Model for MemSink {
 
     ghost Value = { Drain };
 
-    ghost view = { λ a. record { taken = a.taken.items; room = a.room; most = a.most; fails = a.fails.items; writes = a.writes; faults = a.faults } };
+    ghost view = { λ a.
+        record {
+          taken = a.taken.items;
+          room = a.room;
+          most = a.most;
+          fails = a.fails.items;
+          writes = a.writes;
+          faults = a.faults;
+        } };
 
-    ghost invariant = { λ a. (length a.taken.items ≤ a.room) × (a.room ≤ vec_capacity a.taken) × (1 ≤ a.most) };
+    ghost invariant = { λ a.
+        (length a.taken.items ≤ a.room) × (a.room ≤ vec_capacity a.taken) × (1 ≤ a.most) };
 }
 
 impl MemSink {
@@ -162,7 +186,15 @@ impl MemSink {
         fails: Vec<u64>,
     ) -> Result<MemSink, NoMemory>
         requires { 1 ≤ most }
-        ensures { IfOk result (λ s. s ≡ record { taken = []; room = room; most = most; fails = fails.items; writes = 0; faults = 0 }) }
+        ensures { IfOk result (λ s.
+            s ≡ record {
+              taken = [];
+              room = room;
+              most = most;
+              fails = fails.items;
+              writes = 0;
+              faults = 0;
+            }) }
     {
         Ok(MemSink {
             taken: Vec::with_capacity(alloc, room)?,
@@ -195,10 +227,14 @@ impl Sink for MemSink {
         ensures some { 0 < length part.now → IfOk result (λ n. 0 < n) }
         ensures cause { HasCause self.old.faults self.new.faults result }
 
-        ensures fails { IsErr result ↔ (Contains self.old.fails self.old.writes ⊎ ((0 < length part.now) × (length self.old.taken ≡ self.old.room))) }
-        ensures count { IfOk result (λ n. n ≡ min (min self.old.most (length part.now)) (self.old.room - length self.old.taken)) }
+        ensures fails { IsErr result
+            ↔ (Contains self.old.fails self.old.writes
+            ⊎ ((0 < length part.now) × (length self.old.taken ≡ self.old.room))) }
+        ensures count { IfOk result (λ n.
+            n ≡ min (min self.old.most (length part.now)) (self.old.room - length self.old.taken)) }
         ensures writes { self.new.writes ≡ min (self.old.writes + 1) (2 ^ 64 - 1) }
-        ensures kept { (self.new.fails ≡ self.old.fails) × (self.new.most ≡ self.old.most) × (self.new.room ≡ self.old.room) }
+        ensures kept { (self.new.fails ≡ self.old.fails) × (self.new.most ≡ self.old.most)
+            × (self.new.room ≡ self.old.room) }
     {
         let fails = self.fails.contains(&self.writes);
         let full = !part.is_empty() && self.taken.len() == self.room;

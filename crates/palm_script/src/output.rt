@@ -10,7 +10,9 @@ use crate::traits::{Failed, Sink};
 /// `Failed` comes only where the sink's count of faults rose. Then it has taken a front of the part.
 pub fn write_all<O: Sink>(out: &mut O, part: &[u8]) -> Result<(), Failed>
     ensures ok { OnOk result (Appends (O.taken out.old) (O.taken out.new) part.now) }
-    ensures err { OnErr result ((n : ℕ) × (n ≤ length part.now) × Appends (O.taken out.old) (O.taken out.new) (take n part.now)) }
+    ensures err { OnErr result
+        ((n : ℕ) × (n ≤ length part.now)
+        × Appends (O.taken out.old) (O.taken out.new) (take n part.now)) }
     ensures cause { HasCause (O.faults out.old) (O.faults out.new) result }
 {
     let mut done = 0;

@@ -1,6 +1,8 @@
 // What a script says as a whole: calls in sections, up to the first faulty line.
-ghost use Rattle.std.specs.Prelude.{◌≡◌, ◌≤◌, ◌<◌, ◌+◌, ◌∷◌, [], ◌++◌, false, length, sum_by, position, All, MatchOption, IfSome, IfNone, IfOk, OnOk};
-ghost use Rattle.palm_script.specs.Script.{is_feed, without_return as without, lines_of, next_entry, script_of, AreCounts, Says};
+ghost use Rattle.std.specs.Prelude.{◌≡◌, ◌≤◌, ◌<◌, ◌+◌, ◌∷◌, [], ◌++◌, false, length};
+ghost use Rattle.std.specs.Prelude.{sum_by, position, All, MatchOption, IfSome, IfNone, IfOk, OnOk};
+ghost use Rattle.palm_script.specs.Script.{is_feed, without_return as without, lines_of, next_entry, script_of};
+ghost use Rattle.palm_script.specs.Script.{AreCounts, Says};
 
 use crate::input::MOST_BYTES;
 use crate::line::{Line, LineFault, MOST_CALLER, MOST_CALLERS, read_line};
@@ -16,8 +18,8 @@ pub struct SectionEnd {
     pub dumps: bool,
 }
 
-/// What a script says: the calls of its lines before the first faulty one, the sections in which they stand, and the fault of
-/// that line.
+/// What a script says: the calls of its lines before the first faulty one, the sections in which they stand, and
+/// the fault of that line.
 #[derive(Debug, Drop)]
 pub struct Script {
     /// The calls in the order of their lines, each with its place among its caller's calls.
@@ -47,7 +49,8 @@ fn without_return(text: &[u8]) -> &[u8]
 
 // The first line, without its ending, and what stands behind it.
 fn next_line(text: &[u8], whole: bool) -> Option<(&[u8], &[u8])>
-    ensures next { MatchOption result (lines_of text.now whole ≡ []) (λ x. lines_of text.now whole ≡ x.0.now ∷ lines_of x.1.now whole) }
+    ensures next { MatchOption result (lines_of text.now whole ≡ []) (λ x.
+        lines_of text.now whole ≡ x.0.now ∷ lines_of x.1.now whole) }
     ensures shorter { IfSome result (λ x. length x.1.now < length text.now) }
 {
     match first_feed(text) {
@@ -67,7 +70,9 @@ fn add_entry(
     requires caller { caller ≤ MOST_CALLER }
     requires counts { AreCounts counts.old entries.old.items }
     requires few { length entries.old.items ≤ MOST_BYTES }
-    ensures added { OnOk result (entries.new.items ≡ entries.old.items ++ next_entry entries.old.items caller call ∷ []) }
+    ensures added { OnOk result
+        (entries.new.items ≡ entries.old.items ++ next_entry entries.old.items caller call ∷
+        []) }
     ensures counts { OnOk result (AreCounts counts.new entries.new.items) }
 {
     let place = counts[caller as usize];
@@ -82,7 +87,9 @@ fn add_entry(
 
 // Adds the end of the section under way, which has `calls` calls. A new one with none begins.
 fn end_section(ends: &mut Vec<SectionEnd>, calls: &mut u32, dumps: bool) -> Result<(), NoMemory>
-    ensures added { OnOk result (ends.new.items ≡ ends.old.items ++ (record { calls = calls.old; dumps = dumps }) ∷ []) }
+    ensures added { OnOk result
+        (ends.new.items ≡ ends.old.items ++ (record { calls = calls.old; dumps = dumps }) ∷
+        []) }
     ensures zero { OnOk result (calls.new ≡ 0) }
 {
     ends.push(SectionEnd {
@@ -101,7 +108,8 @@ pub fn read_script(alloc: Global, text: &[u8], whole: bool) -> Result<Script, No
     requires { length text.now ≤ MOST_BYTES }
     ensures says { IfOk result (λ script. Says (script_of text.now whole) script) }
     ensures few { IfOk result (λ script. length script.entries.items ≤ length text.now) }
-    ensures within { IfOk result (λ script. sum_by (λ end. end.calls) script.ends.items ≤ length script.entries.items) }
+    ensures within { IfOk result (λ script.
+        sum_by (λ end. end.calls) script.ends.items ≤ length script.entries.items) }
 {
     let mut entries = Vec::new(alloc);
     let mut ends = Vec::new(alloc);
@@ -222,8 +230,8 @@ mod tests {
         Ok(())
     }
 
-    // Bytes that are no text, NULs, tabs and carriage returns. Each script is given with the number of its calls, and the line
-    // and the code of its fault.
+    // Bytes that are no text, NULs, tabs and carriage returns. Each script is given with the number of its calls,
+    // and the line and the code of its fault.
     #[test]
     fn any_bytes(rt: HostRuntime) -> Result<(), Fail> {
         let none: Option<(u64, u8)> = None;

@@ -62,9 +62,9 @@ fn append_line(line: &Line, out: &mut Vec<u8>) -> Result<(), NoMemory>
     append(b"\n", out)
 }
 
-/// Appends a line in its plain spelling, and a line feed after it. There is one blank between fields, numbers have no leading
-/// zeros, and of `Line::Skip` there is the line feed alone. Where the caller is at most `MOST_CALLER`, `read_line` gives the
-/// line back (`laws::lines_read_back`). `out` is unchanged where memory is refused.
+/// Appends a line in its plain spelling, and a line feed after it. There is one blank between fields, numbers have
+/// no leading zeros, and of `Line::Skip` there is the line feed alone. Where the caller is at most `MOST_CALLER`,
+/// `read_line` gives the line back (`laws::lines_read_back`). `out` is unchanged where memory is refused.
 pub fn print_line(line: &Line, out: &mut Vec<u8>) -> Result<(), NoMemory>
     ensures ok { OnOk result (out.new.items ≡ out.old.items ++ line_text line.now) }
     ensures err { OnErr result (out.new.items ≡ out.old.items) }

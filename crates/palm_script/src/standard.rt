@@ -49,9 +49,10 @@ impl<R: Read> Source for StdSource<R> {
     }
 }
 
-/// A sink over a writer of std, as standard output. Each write is flushed. It tells no bytes as a sink, but as many as its writer
-/// tells. It raises its count of faults at each error and where the writer takes nothing of a part that isn't empty. Where flushing
-/// fails, the writer may have taken a front of the part. Contracts see the writer and the count.
+/// A sink over a writer of std, as standard output. Each write is flushed. It tells no bytes as a sink, but as many
+/// as its writer tells. It raises its count of faults at each error and where the writer takes nothing of a part
+/// that isn't empty. Where flushing fails, the writer may have taken a front of the part. Contracts see the writer
+/// and the count.
 #[derive(Debug, Drop)]
 pub struct StdSink<W> {
     inner: W,
@@ -89,7 +90,8 @@ impl<W: Write> Sink for StdSink<W> {
         ensures some { 0 < length part.now → IfOk result (λ n. 0 < n) }
         ensures cause { HasCause self.old.1 self.new.1 result }
 
-        ensures contents { IfOk result (λ n. Appends (W.contents self.old.0) (W.contents self.new.0) (take n part.now)) }
+        ensures contents { IfOk result (λ n.
+            Appends (W.contents self.old.0) (W.contents self.new.0) (take n part.now)) }
     {
         let written = self.inner.write(part);
         let flushed = self.inner.flush();

@@ -229,7 +229,8 @@ fn no_read_follows_the_end_of_input(rt: HostRuntime) -> Result<(), Fail> {
     Ok(())
 }
 
-// Reads of 3 bytes, of which the reads 1 and 2 fail. Read 2 is still to come after the reading, and so is what follows it.
+// Reads of 3 bytes, of which the reads 1 and 2 fail. Read 2 is still to come after the reading, and so is what
+// follows it.
 #[test]
 fn no_read_follows_a_fault(rt: HostRuntime) -> Result<(), Fail> {
     let alloc = rt.alloc();

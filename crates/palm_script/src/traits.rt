@@ -1,4 +1,5 @@
-// What is asked of the outside: a source gives bytes, and a sink takes them. Neither is trusted to do all that it was asked.
+// What is asked of the outside: a source gives bytes, and a sink takes them. Neither is trusted to do all that it
+// was asked.
 ghost use Rattle.std.specs.Prelude.{ℕ, ◌<◌, List, length, Option, IfOk};
 ghost use Rattle.std.specs.Io.{ReadsAtMost, WritesAtMost};
 ghost use Rattle.std.specs.Io.KnownBytes.{ReadConsumes, WriteAppends};

@@ -1,5 +1,5 @@
-// The building of a tree from sorted rows: its leaves first, and then a level of nodes over them at a time, up to the one
-// that is the root.
+// The building of a tree from sorted rows: its leaves first, and then a level of nodes over them at a time, up to
+// the one that is the root.
 //
 // 300 rows are cut into 19 leaves, these 19 nodes into 2, and those 2 stand under the root:
 //
@@ -64,7 +64,8 @@ fn add_leaves<L: Ledger>(
     Ok(leaves)
 }
 
-// Puts the nodes into an arena of the tree that one batch of Sets of rows leaves of the empty tree, and gives its shape.
+// Puts the nodes into an arena of the tree that one batch of Sets of rows leaves of the empty tree, and gives its
+// shape.
 fn put_nodes<L: Ledger>(
     alloc: Global,
     rows: &[Row],
@@ -96,7 +97,8 @@ fn grow<L: Ledger>(alloc: Global, blank: Blank, rows: &[Row]) -> Result<(Arena, 
     ensures idle { IfOk result (λ (arena, shape). arena.begun ≡ None) }
     ensures none_lent { IfOk result (λ (arena, shape). NoneLent arena.places) }
     ensures whole { IfOk result (λ (arena, shape). IsWhole (map_of arena.places) shape) }
-    ensures tree { IfOk result (λ (arena, shape). tree_of arena.places shape ≡ top zero (leaves_of 0 rows.now)) }
+    ensures tree { IfOk result (λ (arena, shape).
+        tree_of arena.places shape ≡ top zero (leaves_of 0 rows.now)) }
     ensures prefixes { OnOk result (PrefixesHold rows.now) }
 {
     let mut steps = Steps::<L>::new(blank);
@@ -108,8 +110,8 @@ fn grow<L: Ledger>(alloc: Global, blank: Blank, rows: &[Row]) -> Result<(Arena, 
 }
 
 impl Tree {
-    /// The tree that one batch of Sets of these rows leaves of the empty tree. It is built from its leaves up, in time that
-    /// grows as the rows do. `NoMemory` where room was refused.
+    /// The tree that one batch of Sets of these rows leaves of the empty tree. It is built from its leaves up, in
+    /// time that grows as the rows do. `NoMemory` where room was refused.
     pub fn build(alloc: Global, rows: &RowList) -> Result<Tree, NoMemory>
         requires { IsTable rows.now }
         ensures { IfOk result (λ tree. tree_in tree ≡ batch_tree (zero, []) (map set_of rows.now)) }

@@ -67,8 +67,10 @@ fn append_level(
     out: &mut Vec<u8>,
 ) -> Result<(), NoMemory>
     requires { AllByRecursion (λ id. IsPrintable (map_of arena.now.places id)) ids.now }
-    ensures text { OnOk result (out.new.items ≡ out.old.items ++ nodes_text (map_of arena.now.places) ids.now) }
-    ensures below { OnOk result (below.new.items ≡ below.old.items ++ ids_below (map_of arena.now.places) ids.now) }
+    ensures text { OnOk result
+        (out.new.items ≡ out.old.items ++ nodes_text (map_of arena.now.places) ids.now) }
+    ensures below { OnOk result
+        (below.new.items ≡ below.old.items ++ ids_below (map_of arena.now.places) ids.now) }
     ensures kept { Extends out.old.items out.new.items }
 {
     for id in ids {
@@ -86,7 +88,9 @@ fn append_level(
 // Appends the lines of all nodes, level by level from the root.
 fn append_levels(arena: &Arena, shape: Shape, out: &mut Vec<u8>) -> Result<(), NoMemory>
     requires { ArePrintable (map_of arena.now.places) shape.levels (shape.root ∷ []) }
-    ensures ok { OnOk result (out.new.items ≡ out.old.items ++ levels_text (map_of arena.now.places) shape.levels (shape.root ∷ [])) }
+    ensures ok { OnOk result
+        (out.new.items ≡ out.old.items ++ levels_text (map_of arena.now.places) shape.levels
+        (shape.root ∷ [])) }
     ensures kept { Extends out.old.items out.new.items }
 {
     let alloc = *out.allocator();

@@ -1,4 +1,5 @@
-// The look-up of what stands last at or before a key: down once to the leaf whose range has the key, and then from its end.
+// The look-up of what stands last at or before a key: down once to the leaf whose range has the key, and then from
+// its end.
 ghost use Rattle.std.specs.Prelude.{◌≡◌, ℕ, List, take, IfSome, IfNone};
 ghost use Rattle.palm_base.specs.Key.{key};
 ghost use Rattle.palm_base.specs.Tree.{rows_of};
@@ -51,10 +52,11 @@ pub(crate) fn shared_below(bound: &Digits, number: &Digits) -> u32
     most
 }
 
-/// The row that rates a number, or how long the next front is, by what stands last at or before a front of it. Where that
-/// doesn't begin the number, no front of it longer than what they share is a row.
+/// The row that rates a number, or how long the next front is, by what stands last at or before a front of it.
+/// Where that doesn't begin the number, no front of it longer than what they share is a row.
 pub(crate) fn jump_from(floor: Floor, number: &Digits) -> Jump
-    ensures { (rows : List Row) (n : ℕ) → IsFrontOf n number.now → IsFloor rows (key (take n number.now)) floor → IsJump rows number.now n result }
+    ensures { (rows : List Row) (n : ℕ) → IsFrontOf n number.now
+        → IsFloor rows (key (take n number.now)) floor → IsJump rows number.now n result }
 {
     let bound = match floor {
         Floor::Last(row) => {

@@ -1,4 +1,5 @@
-//! The table's tree: a lawful B+ tree, how it is built from sorted rows, how its rows are looked up, and its shape as text.
+//! The table's tree: a lawful B+ tree, how it is built from sorted rows, how its rows are looked up, and its shape
+//! as text.
 #![tactic(auto)]
 
 mod build;

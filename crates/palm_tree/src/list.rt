@@ -22,7 +22,9 @@ struct Range {
 // Appends a leaf's rows of the range, as far as the limit allows.
 fn append_from_leaf(leaf: &Leaf, range: &Range, rows: &mut RowList) -> Result<(), NoMemory>
     requires within { length rows.old ≤ range.now.limit }
-    ensures ok { OnOk result (rows.new ≡ take range.now.limit (rows.old ++ filter (lies_within range.now.from range.now.to) leaf.now)) }
+    ensures ok { OnOk result
+        (rows.new ≡ take range.now.limit
+        (rows.old ++ filter (lies_within range.now.from range.now.to) leaf.now)) }
 {
     for i in 0..leaf.len() {
         let row = leaf.row(i);
@@ -37,8 +39,8 @@ fn append_from_leaf(leaf: &Leaf, range: &Range, rows: &mut RowList) -> Result<()
     Ok(())
 }
 
-// Appends the rows of the range that stand below a node, as far as the limit allows. It visits the children from the one
-// where the range begins to the one where it ends, and none of them once the limit is reached.
+// Appends the rows of the range that stand below a node, as far as the limit allows. It visits the children from
+// the one where the range begins to the one where it ends, and none of them once the limit is reached.
 fn append_below(
     arena: &Arena,
     id: NodeId,
@@ -48,7 +50,10 @@ fn append_below(
 ) -> Result<(), NoMemory>
     requires node { HasNodeBelow arena.now.places below id }
     requires within { length rows.old ≤ range.now.limit }
-    ensures ok { OnOk result (rows.new ≡ take range.now.limit (rows.old ++ filter (lies_within range.now.from range.now.to) (rows_below arena.now.places below id))) }
+    ensures ok { OnOk result
+        (rows.new ≡ take range.now.limit
+        (rows.old ++ filter (lies_within range.now.from range.now.to)
+        (rows_below arena.now.places below id))) }
 {
     let inner = match arena.read(id) {
         Node::Leaf(leaf) => return append_from_leaf(leaf, range, rows),
@@ -64,11 +69,13 @@ fn append_below(
 }
 
 impl Tree {
-    /// The rows whose prefixes stand from one to another, both included, in order, `limit` of them at most. `NoMemory`
-    /// where room for them was refused. It goes down once, to where the range begins, and then along its leaves, to where
-    /// the range ends or the limit is reached.
+    /// The rows whose prefixes stand from one to another, both included, in order, `limit` of them at most.
+    /// `NoMemory` where room for them was refused. It goes down once, to where the range begins, and then along its
+    /// leaves, to where the range ends or the limit is reached.
     pub fn list(&self, from: &Digits, to: &Digits, limit: Limit) -> Result<RowList, NoMemory>
-        ensures { IfOk result (λ rows. rows ≡ take limit (filter (lies_within (key from.now) (key to.now)) (rows_of (tree_in self.now)))) }
+        ensures { IfOk result (λ rows.
+            rows ≡ take limit
+            (filter (lies_within (key from.now) (key to.now)) (rows_of (tree_in self.now)))) }
     {
         let range = Range {
             from: from.key(),

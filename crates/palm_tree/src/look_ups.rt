@@ -1,11 +1,12 @@
-// Look-ups abreast: several go down the tree together, level by level, so that their waits for memory fall together. One that
-// isn't done at its leaf goes down once more, with those that are taken next.
+// Look-ups abreast: several go down the tree together, level by level, so that their waits for memory fall
+// together. One that isn't done at its leaf goes down once more, with those that are taken next.
 ghost use Rattle.std.specs.Prelude.{◌≡◌, ◌+◌, ◌≤◌, ◌⊎◌, length, map, OnOk, IfOk};
 ghost use Rattle.palm_base.specs.LookUps.{looked};
 ghost use Rattle.palm_base.specs.Table.{rate_at};
 ghost use Rattle.palm_base.specs.Tree.{rows_of};
 ghost use Rattle.palm_tree.specs.Floors.{IsSpotFor};
-ghost use Rattle.palm_tree.specs.LookLanes.{AreSteps, AreUnderWay, EachSpot, GoesBy, IsFork, IsLess, IsLook, way_left, work_left};
+ghost use Rattle.palm_tree.specs.LookLanes.{AreSteps, AreUnderWay, EachSpot, GoesBy, IsFork, IsLess, IsLook};
+ghost use Rattle.palm_tree.specs.LookLanes.{way_left, work_left};
 ghost use Rattle.palm_tree.specs.TreeValue.{tree_in};
 
 use crate::floor::{Jump, Spot, jump_from};
@@ -128,8 +129,10 @@ impl Tree {
         requires room { length lanes.now ≤ length spots.now }
         requires few { length lanes.now ≤ LANES }
         requires leaves { EachSpot (λ lane spot. IsSpotFor self.now lane.key spot) lanes.now spots.now }
-        requires under_way { AreUnderWay (rows_of (tree_in self.now)) entries.now lanes.now answers.old.items }
-        ensures under_way { AreUnderWay (rows_of (tree_in self.now)) entries.now result.items answers.new.items }
+        requires under_way { AreUnderWay (rows_of (tree_in self.now)) entries.now lanes.now
+            answers.old.items }
+        ensures under_way { AreUnderWay (rows_of (tree_in self.now)) entries.now result.items
+            answers.new.items }
         ensures same { length answers.new.items ≡ length answers.old.items }
         ensures less { way_left result.items + length lanes.now ≤ way_left lanes.now }
     {
@@ -152,9 +155,15 @@ impl Tree {
         answers: &mut Vec<Option<Reply>>,
     ) -> Result<(), NoMemory>
         requires { AreUnderWay (rows_of (tree_in self.now)) entries.now lanes.old.items answers.old.items }
-        ensures under_way { OnOk result (AreUnderWay (rows_of (tree_in self.now)) entries.now lanes.new.items answers.new.items) }
-        ensures full { OnOk result ((length lanes.new.items ≡ LANES) ⊎ (length answers.new.items ≡ length entries.now)) }
-        ensures less { OnOk result (work_left entries.now lanes.new.items answers.new.items ≤ work_left entries.now lanes.old.items answers.old.items) }
+        ensures under_way { OnOk result
+            (AreUnderWay (rows_of (tree_in self.now)) entries.now lanes.new.items
+            answers.new.items) }
+        ensures full { OnOk result
+            ((length lanes.new.items ≡ LANES)
+            ⊎ (length answers.new.items ≡ length entries.now)) }
+        ensures less { OnOk result
+            (work_left entries.now lanes.new.items answers.new.items ≤ work_left entries.now
+            lanes.old.items answers.old.items) }
     {
         while !lanes.is_full() {
             let place = answers.len();
@@ -172,10 +181,12 @@ impl Tree {
         Ok(())
     }
 
-    /// The answers to the look-ups among entries, on the tree as it stands, each at its entry's place. Those of edits are `None`.
-    /// `NoMemory` where room for them was refused. Gets and Rates go down `LANES` abreast; no memory is taken for one of them.
+    /// The answers to the look-ups among entries, on the tree as it stands, each at its entry's place. Those of
+    /// edits are `None`. `NoMemory` where room for them was refused. Gets and Rates go down `LANES` abreast; no
+    /// memory is taken for one of them.
     pub fn answer_look_ups(&self, entries: &[Entry]) -> Result<Vec<Option<Reply>>, NoMemory>
-        ensures { IfOk result (λ answers. answers.items ≡ map (looked (rows_of (tree_in self.now))) entries.now) }
+        ensures { IfOk result (λ answers.
+            answers.items ≡ map (looked (rows_of (tree_in self.now))) entries.now) }
     {
         let mut answers = Vec::with_capacity(self.arena.allocator(), entries.len())?;
         let mut lanes = ArrayVec::new();

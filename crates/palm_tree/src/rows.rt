@@ -25,8 +25,8 @@ fn append_below(arena: &Arena, id: NodeId, below: u32, rows: &mut Vec<Row>) -> R
 }
 
 impl Tree {
-    /// All rows of the table, in the order of their prefixes. `NoMemory` where room for them was refused. It takes room for
-    /// as many rows as there are once, and visits each node once.
+    /// All rows of the table, in the order of their prefixes. `NoMemory` where room for them was refused. It takes
+    /// room for as many rows as there are once, and visits each node once.
     pub fn all_rows(&self) -> Result<RowList, NoMemory>
         ensures { IfOk result (λ rows. rows ≡ rows_of (tree_in self.now)) }
     {

@@ -14,8 +14,8 @@ use std::alloc::Global;
 use std::marker::{Brand, Model};
 use std::sync::ledger::{Blank, Ledger};
 
-/// A lawful B+ tree of a table's rows, with no batch under way. Contracts see its nodes at their ids, its shape, and the ids
-/// that the latest batch moved. `tree_in` is the tree that they are, without the ids.
+/// A lawful B+ tree of a table's rows, with no batch under way. Contracts see its nodes at their ids, its shape,
+/// and the ids that the latest batch moved. `tree_in` is the tree that they are, without the ids.
 #[derive(Debug, Drop)]
 pub struct Tree {
     /// The nodes, by their ids.
@@ -87,9 +87,9 @@ impl Tree {
         leaf.get(key)
     }
 
-    /// The row by which a number is rated, that of the longest prefix that begins it. `None` exactly where no row's prefix
-    /// begins the number. It looks up what stands last at or before the number. Where that doesn't begin it, no front of the
-    /// number longer than what they share is a row, and the search goes on from that front.
+    /// The row by which a number is rated, that of the longest prefix that begins it. `None` exactly where no row's
+    /// prefix begins the number. It looks up what stands last at or before the number. Where that doesn't begin it,
+    /// no front of the number longer than what they share is a row, and the search goes on from that front.
     pub fn longest(&self, number: &Digits) -> Option<Row>
         ensures { result ≡ best_for number.now (rows_of (tree_in self.now)) }
     {

@@ -38,8 +38,11 @@ fn command_for<'a>(alloc: Global, names: &[&'a str]) -> Result<Command<'a>, Allo
 /// What `clap` finds in the words, or its error: why it refuses them, or that memory was refused.
 pub fn matches_in<'a>(alloc: Global, words: &'a Vec<String>) -> Result<ArgMatches<'a>, Error>
     ensures accepts { IfOk result (λ m. fault_of palm_command (map string_bytes words.now.items) ≡ []) }
-    ensures rows { IfOk result (λ m. rows_of (found_of m) ≡ matches_of palm_command (map string_bytes words.now.items)) }
-    ensures err { IfErr result (λ e. (kind_of e ≢ ErrorKind.OutOfMemory) → fault_of palm_command (map string_bytes words.now.items) ≢ []) }
+    ensures rows { IfOk result (λ m.
+        rows_of (found_of m) ≡ matches_of palm_command (map string_bytes words.now.items)) }
+    ensures err { IfErr result (λ e.
+        (kind_of e ≢ ErrorKind.OutOfMemory)
+        → fault_of palm_command (map string_bytes words.now.items) ≢ []) }
 {
     let command = command_for(alloc, &OPTIONS)?;
     command.try_get_matches_from(words.as_slice())

@@ -37,7 +37,8 @@ pub fn dump_named(value: &str) -> Option<DumpWhen>
 /// When the tree is dumped, by the VALUE that was found or by the default. `None` where the VALUE is none of the three.
 pub fn dump_in(matches: &ArgMatches) -> Option<DumpWhen>
     ensures good { is_some result ≡ at_most_one is_dump (found_values (found_of matches.now) (codes "dump")) }
-    ensures says { IfSome result (λ when. when ≡ dump_or_never (found_values (found_of matches.now) (codes "dump"))) }
+    ensures says { IfSome result (λ when.
+        when ≡ dump_or_never (found_values (found_of matches.now) (codes "dump"))) }
 {
     match matches.get_str("dump") {
         None => Some(DumpWhen::Never),
@@ -45,8 +46,8 @@ pub fn dump_in(matches: &ArgMatches) -> Option<DumpWhen>
     }
 }
 
-/// The number of the option of this name, or its default where it wasn't found. `None` where its VALUE is no number field
-/// from `least` to `most`.
+/// The number of the option of this name, or its default where it wasn't found. `None` where its VALUE is no number
+/// field from `least` to `most`.
 pub fn number_in(
     matches: &ArgMatches,
     name: &str,
@@ -56,7 +57,8 @@ pub fn number_in(
 ) -> Option<u64>
     requires least { least ≤ default }
     requires most { default ≤ most }
-    ensures good { is_some result ≡ at_most_one (is_from_to least most) (found_values (found_of matches.now) name.now) }
+    ensures good { is_some result ≡ at_most_one (is_from_to least most)
+        (found_values (found_of matches.now) name.now) }
     ensures says { IfSome result (λ n. n ≡ number_or default (found_values (found_of matches.now) name.now)) }
     ensures least { IfSome result (λ n. least ≤ n) }
     ensures most { IfSome result (λ n. n ≤ most) }
@@ -77,7 +79,8 @@ pub fn small_number_in(
 ) -> Option<u32>
     requires least { least ≤ default }
     requires most { default ≤ most }
-    ensures good { is_some result ≡ at_most_one (is_from_to least most) (found_values (found_of matches.now) name.now) }
+    ensures good { is_some result ≡ at_most_one (is_from_to least most)
+        (found_values (found_of matches.now) name.now) }
     ensures says { IfSome result (λ n. n ≡ number_or default (found_values (found_of matches.now) name.now)) }
     ensures least { IfSome result (λ n. least ≤ n) }
     ensures most { IfSome result (λ n. n ≤ most) }

@@ -43,7 +43,8 @@ impl fmt::Display for WordsFault {
 
 impl Error for WordsFault {}
 
-// The settings by the texts that were found: a line for each option, with its least number, its greatest and its default.
+// The settings by the texts that were found: a line for each option, with its least number, its greatest and its
+// default.
 fn settings_in(matches: &ArgMatches) -> Option<Settings>
     ensures says { result ≡ set_by_matches (found_of matches.now) }
     ensures bounds { IfSome result AreWithin }
