@@ -13,7 +13,7 @@ use Rattle.palm_route.specs.declared.part.Ask.{Ask}
 use Rattle.palm_route.specs.declared.part.Ask.TheVariants as ask
 use Rattle.palm_route.specs.declared.part.Part.{Part}
 use Rattle.palm_leaf.specs.Answers.{answers_in, rows_in_node}
-use Rattle.palm_leaf.specs.Asked.{is_edit, is_look, all_look, has_edit}
+use Rattle.palm_leaf.specs.Asked.{is_edit, has_edit}
 use Rattle.palm_leaf.specs.Worked.{answers_of_plan, leaf_left, outcome_shown, parts_of_plan, IsResolved, IsWorked}
 use Rattle.palm_leaf.specs.declared.leaf_work.LeafPlan.{LeafPlan}
 use Rattle.palm_leaf.specs.declared.leaf_work.LeafWork.{LeafWork}
@@ -78,42 +78,31 @@ worked_itself rows node work plan resolved read leaf no_later none looks most st
       outcome = rw (leaf, done.later, no_later, done.low, same) (sym own);
     }
 
--- Parts that look are no edits.
-looks_are_no_edits : (parts : List Part) → all_look parts ≡ true → has_edit parts ≡ false
-looks_are_no_edits [] all = refl
-looks_are_no_edits (part ∷ parts) all = by part.ask all (looks_are_no_edits parts)
-  where
-    by : (what : Ask) → is_look what && all_look parts ≡ true → (all_look parts ≡ true → has_edit parts ≡ false) → is_edit what || has_edit parts ≡ false
-    by (ask.Set rate) all rest = absurd cc
-    by ask.Del all rest = absurd cc
-    by ask.Look all rest = rest all
-    by (ask.List from to limit) all rest = absurd cc
-
 not_small : (least : ℕ) (rows : List Row) → least ≤ length rows → is_small least rows ≡ false
 not_small least [] enough = refl
 not_small least (row ∷ rows) enough = le-ltb (length (row ∷ rows)) least enough
 
--- A leaf that is only looked at, and has enough rows, stands for itself.
-pub worked_looking : (rows : List Row) (node : Node) (work : LeafWork) (plan : LeafPlan) → plan ≡ record work.plan { asked = plan.asked }
-    → answers_of_plan plan ≡ answers_in (rows_in_node (Some node)) (parts_of_plan work.plan) → node ≡ work.lease.node → work.lease.node ≡ Leaf rows → work.plan.later.items ≡ [] → vec_len work.plan.later ≡ 0
-    → length (rows_in_node (Some node)) ≤ MOST_LEAF_ROWS → all_look (parts_of_plan work.plan) ≡ true → 0 < length (rows_in_node (Some work.lease.node)) → work.plan.least ≤ length (rows_in_node (Some work.lease.node))
-    → IsWorked rows work (record { lease = work.lease; plan = record plan { kept = true } })
-worked_looking rows node work plan only answered read leaf no_later none most looks some enough =
-    let held : rows_in_node (Some node) ≡ rows = ap (λ n. rows_in_node (Some n)) (read ∙ leaf) in
-    let own_rows : rows_in_node (Some work.lease.node) ≡ rows = ap (λ n. rows_in_node (Some n)) leaf in
-    let same : after_all rows (edits_of (parts_of_plan work.plan)) ≡ rows = ap (after_all rows) (no_edits (parts_of_plan work.plan) (looks_are_no_edits (parts_of_plan work.plan) looks)) in
-    let later : plan.later ≡ work.plan.later = ap (λ (p : LeafPlan). p.later) only in
-    let low : plan.low ≡ work.plan.low = ap (λ (p : LeafPlan). p.low) only in
-    let few : vec_len plan.later ≤ vec_len work.plan.asked = rw (later, none) (omega arith) in
-    let own : leaf_left work.plan.least work.plan.low rows ≡ record { pieces = (work.plan.low, rows) ∷ []; loose = [] } =
-    left_itself work.plan.least work.plan.low rows (subst (λ rs. 0 < length rs) own_rows some) (not_small work.plan.least rows (subst (λ rs. work.plan.least ≤ length rs) own_rows enough))
-    (subst (λ rs. length rs ≤ MOST_LEAF_ROWS) held most) in
+-- A leaf in which all was done where its rows stand, and that has enough of them, stands on whole.
+pub worked_fitting : (rows : List Row) (work after : LeafWork) → work.lease.node ≡ Leaf rows → after.lease.id ≡ work.lease.id → after.plan ≡ record work.plan { asked = after.plan.asked; kept = true }
+    → after.lease.node ≡ Leaf (after_all rows (edits_of (parts_of_plan work.plan))) → answers_of_plan after.plan ≡ answers_in rows (parts_of_plan work.plan)
+    → work.plan.later.items ≡ [] → vec_len work.plan.later ≡ 0 → 0 < length rows → work.plan.least ≤ length rows → length rows ≤ length (rows_in_node (Some after.lease.node))
+    → length (rows_in_node (Some after.lease.node)) ≤ MOST_LEAF_ROWS → IsWorked rows work after
+worked_fitting rows work after leaf id only written answered no_later none some enough no_fewer most =
+    let left = after_all rows (edits_of (parts_of_plan work.plan)) in
+    let held : rows_in_node (Some after.lease.node) ≡ left = ap (λ n. rows_in_node (Some n)) written in
+    let later : after.plan.later ≡ work.plan.later = ap (λ (p : LeafPlan). p.later) only in
+    let low : after.plan.low ≡ work.plan.low = ap (λ (p : LeafPlan). p.low) only in
+    let kept : after.plan.kept ≡ true = ap (λ (p : LeafPlan). p.kept) only in
+    let few : vec_len after.plan.later ≤ vec_len work.plan.asked = rw (later, none) (omega arith) in
+    let long : length rows ≤ length left = subst (λ rs. length rows ≤ length rs) held no_fewer in
+    let own : leaf_left work.plan.least work.plan.low left ≡ record { pieces = (work.plan.low, left) ∷ []; loose = [] } =
+    left_itself work.plan.least work.plan.low left (omega (arith, some, long)) (not_small work.plan.least left (omega (arith, enough, long))) (subst (λ rs. length rs ≤ MOST_LEAF_ROWS) held most) in
     record {
-      id = refl;
+      id = id;
       path = ap (λ (p : LeafPlan). p.path) only;
       low = low;
-      leaf = (rows, leaf);
+      leaf = (left, written);
       few = few;
-      answers = answered ∙ ap (λ rs. answers_in rs (parts_of_plan work.plan)) held;
-      outcome = rw (leaf, later, no_later, low, same) (sym own);
+      answers = answered;
+      outcome = rw (kept, written, later, no_later, low) (sym own);
     }

@@ -25,16 +25,16 @@ is_set ask.Del = false
 is_set ask.Look = false
 is_set (ask.List from to limit) = false
 
--- The ask is a look-up. So a look-up is one, and a List isn't.
-abbrev pub is_look : Ask → Bool
-is_look (ask.Set rate) = false
-is_look ask.Del = false
-is_look ask.Look = true
-is_look (ask.List from to limit) = false
+-- The ask is a Set or a look-up: it takes no row out, and lists none. So a Set and a look-up are, and a Del isn't.
+abbrev pub keeps : Ask → Bool
+keeps (ask.Set rate) = true
+keeps ask.Del = false
+keeps ask.Look = true
+keeps (ask.List from to limit) = false
 
--- Each of the parts looks for a row. So two look-ups do, and a look-up and a Del don't.
-abbrev pub all_look : List Part → Bool
-all_look parts = list_all (λ part. is_look part.ask) parts
+-- Each of the parts is a Set or a look-up. So a Set and a look-up are, and a look-up and a Del aren't.
+abbrev pub all_keep : List Part → Bool
+all_keep parts = list_all (λ part. keeps part.ask) parts
 
 -- One of the parts is an edit. So it is of a look-up and a Del, and not of two look-ups.
 abbrev pub has_edit : List Part → Bool

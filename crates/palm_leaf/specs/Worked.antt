@@ -11,7 +11,7 @@ use Rattle.palm_node.specs.declared.node.Node.TheVariants.{Leaf}
 use Rattle.palm_route.specs.Edits.{edits_of}
 use Rattle.palm_route.specs.declared.part.Part.{Part}
 use Rattle.palm_leaf.specs.Answers.{answers_in, rows_in_node}
-use Rattle.palm_leaf.specs.Asked.{all_look, set_count, answered, part_of, IsOpen}
+use Rattle.palm_leaf.specs.Asked.{all_keep, set_count, answered, part_of, IsOpen}
 use Rattle.palm_leaf.specs.declared.answer.PartAnswer.{PartAnswer}
 use Rattle.palm_leaf.specs.declared.leaf_work.NewLeaf.{NewLeaf}
 use Rattle.palm_leaf.specs.declared.leaf_work.LeafPlan.{LeafPlan}
@@ -45,13 +45,13 @@ abbrev pub parts_of_plan : LeafPlan → List Part
 parts_of_plan plan = map part_of plan.asked.items
 
 -- A plan before the work: nothing is listed yet, and there is room for all that may come of a leaf of so many rows, to which
--- only a Set can add one. Where it is only looked at, it stands on, and needs no room for rows.
+-- only a Set can add one. Where the parts fit, they are done where the leaf's rows stand, and no room for rows is needed.
 -- So one of Set 44 90 and a look-up for a leaf of 16 rows has room for 17 rows and for one later leaf.
 pub record IsPlan (held : ℕ) (plan : LeafPlan) : Type 0 where
   pub no_rows : plan.rows.items ≡ []
   pub no_later : plan.later.items ≡ []
-  pub row_room : plan.looks ≡ false → held + set_count (parts_of_plan plan) ≤ vec_capacity plan.rows
-  pub looks : plan.looks ≡ true → (all_look (parts_of_plan plan) ≡ true) × (0 < held) × (plan.least ≤ held)
+  pub row_room : plan.fits ≡ false → held + set_count (parts_of_plan plan) ≤ vec_capacity plan.rows
+  pub fits : plan.fits ≡ true → (all_keep (parts_of_plan plan) ≡ true) × (0 < held) × (plan.least ≤ held) × (held + set_count (parts_of_plan plan) ≤ MOST_LEAF_ROWS)
   pub later_room : piece_count MOST_LEAF_ROWS (held + set_count (parts_of_plan plan)) ≤ vec_capacity plan.later + 1
   pub not_kept : plan.kept ≡ false
   pub waits : AllByRecursion (IsOpen (held + set_count (parts_of_plan plan))) plan.asked.items

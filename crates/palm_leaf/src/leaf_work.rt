@@ -1,16 +1,19 @@
 // One leaf's work: from its rows and its parts to the answers and the leaves that stand for it.
 ghost use Rattle.std.specs.Prelude.{◌≡◌, ℕ, ◌≤◌, ◌<◌, ◌+◌, ◌∷◌, ◌⊎◌, true, false};
 ghost use Rattle.std.specs.Prelude.{List, [], length, map, take, Some, vec_len, vec_capacity};
-ghost use Rattle.palm_base.specs.Table.{IsTable};
+ghost use Rattle.std.specs.List.{AllByRecursion};
+ghost use Rattle.palm_base.specs.Table.{IsTable, after_all};
 ghost use Rattle.palm_base.specs.Cut.{piece_count, piece_size};
 ghost use Rattle.palm_base.specs.Pass.{is_small, leaves_of};
 ghost use Rattle.palm_base.specs.declared.row.Row.{Row};
 ghost use Rattle.palm_leaf.specs.Answers.{answers_in, rows_in_node};
-ghost use Rattle.palm_leaf.specs.Asked.{all_look};
+ghost use Rattle.palm_leaf.specs.Asked.{all_keep, set_count};
+ghost use Rattle.palm_leaf.specs.Routed.{HasKey};
+ghost use Rattle.palm_route.specs.Edits.{edits_of};
 ghost use Rattle.palm_leaf.specs.Worked.{answers_of_plan, low_and_rows, parts_of_plan, IsPlan, IsResolved, IsReady};
 ghost use Rattle.palm_leaf.specs.Worked.{HasRun};
 
-use crate::rows::{Asked, has_edit, look_all, resolve};
+use crate::rows::{Asked, has_edit, resolve, write_all};
 use palm_arena::Lease;
 use palm_base::{MOST_LEAF_ROWS, Row};
 use palm_node::{Leaf, Node, Path, piece_size, pieces};
@@ -36,8 +39,9 @@ pub struct LeafPlan<'a> {
     pub least: usize,
     /// The parts, in the order of their arrival.
     pub asked: Vec<Asked>,
-    /// Whether the leaf is only looked at, and stands on as it is. Then its rows needn't be listed.
-    pub looks: bool,
+    /// Whether all is done where the leaf's rows stand: no part takes a row out or lists any, and the leaf has room
+    /// for those that they add. It stands on then, and its rows needn't be listed.
+    pub fits: bool,
     /// The rows, while they are changed. They are loose in the end where the leaf isn't kept.
     pub rows: Vec<Row>,
     /// The leaves past the first that the rows are cut into.
@@ -96,7 +100,7 @@ impl LeafPlan<'_> {
 pub fn resolve_parts(node: &Node, plan: &mut LeafPlan<'_>)
     requires leaf { (rows : List Row) × (node.now ≡ Node.Leaf rows) }
     requires plan { IsPlan (length (rows_in_node (Some node.now))) plan.old }
-    requires listed { plan.old.looks ≡ false }
+    requires listed { plan.old.fits ≡ false }
     ensures resolved { IsResolved (rows_in_node (Some node.now)) plan.old plan.new }
     ensures few { length (rows_in_node (Some node.now)) ≤ MOST_LEAF_ROWS }
 {
@@ -107,21 +111,30 @@ pub fn resolve_parts(node: &Node, plan: &mut LeafPlan<'_>)
     resolve(&mut plan.rows, &mut plan.asked);
 }
 
-/// Looks for the rows of the parts, each of which looks for one, in the leaf itself.
-pub fn look_parts(node: &Node, plan: &mut LeafPlan<'_>)
-    requires leaf { (rows : List Row) × (node.now ≡ Node.Leaf rows) }
-    requires looks { all_look (parts_of_plan plan.old) ≡ true }
-    ensures plan { plan.new ≡ record plan.old { asked = plan.new.asked } }
-    ensures answers { answers_of_plan plan.new ≡ answers_in (rows_in_node (Some node.now))
+// Resolves the parts, Sets and look-ups, in the leaf itself, which stands on.
+fn write_parts(lease: &mut Lease, plan: &mut LeafPlan<'_>)
+    requires leaf { (rows : List Row) × (lease.old.node ≡ Node.Leaf rows) }
+    requires keep { all_keep (parts_of_plan plan.old) ≡ true }
+    requires keys { AllByRecursion (λ one. HasKey one.part) plan.old.asked.items }
+    requires room { length (rows_in_node (Some lease.old.node)) + set_count (parts_of_plan plan.old)
+        ≤ MOST_LEAF_ROWS }
+    ensures id { lease.new.id ≡ lease.old.id }
+    ensures leaf { lease.new.node
+        ≡ Node.Leaf (after_all (rows_in_node (Some lease.old.node)) (edits_of (parts_of_plan plan.old))) }
+    ensures plan { plan.new ≡ record plan.old { asked = plan.new.asked; kept = true } }
+    ensures answers { answers_of_plan plan.new ≡ answers_in (rows_in_node (Some lease.old.node))
         (parts_of_plan plan.old) }
-    ensures few { length (rows_in_node (Some node.now)) ≤ MOST_LEAF_ROWS }
+    ensures no_fewer { length (rows_in_node (Some lease.old.node)) ≤ length
+        (rows_in_node (Some lease.new.node)) }
+    ensures few { length (rows_in_node (Some lease.new.node)) ≤ MOST_LEAF_ROWS }
 {
-    let Node::Leaf(leaf) = node else {
+    let Node::Leaf(leaf) = lease.node_mut() else {
         unreachable!()
     };
+    write_all(leaf, &mut plan.asked);
     // Its contract says that the leaf is narrow, which `few` promises.
     let _ = leaf.len();
-    look_all(leaf, &mut plan.asked);
+    plan.kept = true;
 }
 
 // Writes the first of the rows into the leaf, and cuts the others into later ones.
@@ -155,9 +168,8 @@ impl Job for LeafWork<'_> {
     ghost ran = { HasRun };
 
     fn run(&mut self) {
-        if self.plan.looks {
-            look_parts(self.lease.node(), &mut self.plan);
-            self.plan.kept = true;
+        if self.plan.fits {
+            write_parts(&mut self.lease, &mut self.plan);
             return;
         }
         let edited = has_edit(&self.plan.asked);

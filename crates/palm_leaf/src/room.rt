@@ -3,12 +3,12 @@ ghost use Rattle.std.specs.Prelude.{◌≡◌, ◌<◌, true, false, ◌≤◌, 
 ghost use Rattle.std.specs.Prelude.{if◌then◌else◌, map, IfOk, vec_capacity};
 ghost use Rattle.std.specs.List.{AllByRecursion};
 ghost use Rattle.palm_base.specs.declared.bounds.TheConstants.{MOST_LEAF_ROWS};
-ghost use Rattle.palm_leaf.specs.Asked.{all_look, set_count, part_of, HasRoom};
+ghost use Rattle.palm_leaf.specs.Asked.{all_keep, set_count, part_of, HasRoom};
 ghost use Rattle.palm_leaf.specs.Routed.{HasKey, written_low};
 ghost use Rattle.palm_leaf.specs.Worked.{IsPlan, TakesAtMost, parts_of_plan};
 
 use crate::leaf_work::LeafPlan;
-use crate::rows::{Asked, all_look};
+use crate::rows::{Asked, all_keep};
 use palm_base::{MOST_LEAF_ROWS, NoMemory};
 use palm_node::{Path, pieces};
 use palm_route::{Ask, Group, Part};
@@ -77,19 +77,20 @@ fn most_rows(held: usize, parts: &[Part]) -> Result<usize, NoMemory>
     }
 }
 
-// Whether a leaf of `held` rows is only looked at, and stands on.
-fn only_looks(asked: &[Asked], held: usize, least: usize) -> bool
-    ensures { result ≡ true → (all_look (map part_of asked.now) ≡ true) × (0 < held) × (least ≤ held) }
+// Whether a leaf of `held` rows, which may come to `most` of them, stands on with all of them where they stand.
+fn fits(asked: &[Asked], held: usize, least: usize, most: usize) -> bool
+    ensures { result ≡ true → (all_keep (map part_of asked.now) ≡ true) × (0 < held) × (least ≤ held)
+        × (most ≤ MOST_LEAF_ROWS) }
 {
-    0 < held && least <= held && all_look(asked)
+    0 < held && least <= held && most <= MOST_LEAF_ROWS && all_keep(asked)
 }
 
 // For how many rows there must be room: for none where they aren't listed.
-fn row_room(looks: bool, most: usize) -> usize
-    ensures room { looks ≡ false → result ≡ most }
+fn row_room(fits: bool, most: usize) -> usize
+    ensures room { fits ≡ false → result ≡ most }
     ensures no_more { result ≤ most }
 {
-    if looks { 0 } else { most }
+    if fits { 0 } else { most }
 }
 
 /// The plan for a group's leaf, which has `held` rows. It is removed where it is left with some rows, but fewer
@@ -113,15 +114,15 @@ pub fn plan<'a>(
     let most = most_rows(held, parts)?;
     let low = parent_low(&group.path, group.low);
     let asked = ask_all(alloc, parts, most)?;
-    let looks = only_looks(&asked, held, least);
-    let rows = Vec::with_capacity(alloc, row_room(looks, most))?;
+    let fits = fits(&asked, held, least, most);
+    let rows = Vec::with_capacity(alloc, row_room(fits, most))?;
     let later = Vec::with_capacity(alloc, pieces(MOST_LEAF_ROWS, most).saturating_sub(1))?;
     Ok(LeafPlan {
         path: &group.path,
         low,
         least,
         asked,
-        looks,
+        fits,
         rows,
         later,
         kept: false,

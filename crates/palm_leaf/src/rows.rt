@@ -6,10 +6,10 @@ ghost use Rattle.palm_base.specs.Table.{rate_at, put, without, lies_within, afte
 ghost use Rattle.palm_route.specs.Edits.{edits_of};
 ghost use Rattle.palm_leaf.specs.Routed.{HasKey};
 ghost use Rattle.palm_leaf.specs.Answers.{answers_in, answer_of, after_part};
-ghost use Rattle.palm_leaf.specs.Asked.{is_edit, is_look, all_look, has_edit, set_count, answered, part_of, IsOpen};
+ghost use Rattle.palm_leaf.specs.Asked.{is_edit, keeps, all_keep, has_edit, set_count, answered, part_of, IsOpen};
 ghost use Rattle.palm_leaf.specs.Asked.{FindsRoom};
 
-use palm_base::{Amount, Digits, Row, find_row};
+use palm_base::{Amount, Digits, MOST_LEAF_ROWS, Row, find_row};
 use palm_node::Leaf;
 use palm_route::{Ask, Part};
 
@@ -104,19 +104,29 @@ impl Asked {
         matches!(&self.part.ask, Ask::Set(_) | Ask::Del)
     }
 
-    // Answers the part, which looks for a row, in a leaf.
-    fn look(&mut self, leaf: &Leaf)
-        requires { is_look self.old.part.ask ≡ true }
+    // Answers the part, a Set or a look-up, in a leaf, and writes there what it sets.
+    fn write(&mut self, leaf: &mut Leaf)
+        requires keeps { keeps self.old.part.ask ≡ true }
+        requires key { HasKey self.old.part }
+        requires room { length leaf.old + set_count (self.old.part ∷ []) ≤ MOST_LEAF_ROWS }
         ensures answer { answered self.new ≡ record {
           part = self.old.part;
-          answer = answer_of leaf.now self.old.part;
+          answer = answer_of leaf.old self.old.part;
         } }
-        ensures rows { after_part leaf.now self.old.part ≡ leaf.now }
+        ensures rows { leaf.new ≡ after_part leaf.old self.old.part }
+        ensures no_fewer { length leaf.old ≤ length leaf.new }
+        ensures few { length leaf.new ≤ length leaf.old + set_count (self.old.part ∷ []) }
     {
-        let Ask::Look = &self.part.ask else {
-            unreachable!()
-        };
-        self.rate = leaf.get(self.part.key);
+        let key = self.part.key;
+        self.rate = leaf.get(key);
+        match &self.part.ask {
+            Ask::Set(rate) => leaf.put(Row {
+                prefix: Digits::of_key(key),
+                rate: *rate,
+            }),
+            Ask::Look => {}
+            Ask::Del | Ask::List { .. } => unreachable!(),
+        }
     }
 
     // Answers the part on the rows, for which there is room.
@@ -196,26 +206,30 @@ pub fn has_edit(asked: &[Asked]) -> bool
     false
 }
 
-/// Whether each of a leaf's parts looks for a row.
-pub fn all_look(asked: &[Asked]) -> bool
-    ensures { result ≡ all_look (map part_of asked.now) }
+/// Whether each of a leaf's parts is a Set or a look-up.
+pub fn all_keep(asked: &[Asked]) -> bool
+    ensures { result ≡ all_keep (map part_of asked.now) }
 {
     for one in asked {
-        if !matches!(&one.part.ask, Ask::Look) {
+        if !matches!(&one.part.ask, Ask::Set(_) | Ask::Look) {
             return false;
         }
     }
     true
 }
 
-/// Answers a leaf's parts, each of which looks for a row.
-pub fn look_all(leaf: &Leaf, asked: &mut [Asked])
-    requires { all_look (map part_of asked.old) ≡ true }
-    ensures answers { map answered asked.new ≡ answers_in leaf.now (map part_of asked.old) }
+/// Resolves a leaf's parts, Sets and look-ups, in the leaf itself, which has room for the rows that they may add.
+pub fn write_all(leaf: &mut Leaf, asked: &mut [Asked])
+    requires keep { all_keep (map part_of asked.old) ≡ true }
+    requires keys { AllByRecursion (λ one. HasKey one.part) asked.old }
+    requires room { length leaf.old + set_count (map part_of asked.old) ≤ MOST_LEAF_ROWS }
+    ensures answers { map answered asked.new ≡ answers_in leaf.old (map part_of asked.old) }
+    ensures rows { leaf.new ≡ after_all leaf.old (edits_of (map part_of asked.old)) }
+    ensures no_fewer { length leaf.old ≤ length leaf.new }
     ensures len { length asked.new ≡ length asked.old }
 {
     for one in asked.iter_mut() {
-        one.look(leaf);
+        one.write(leaf);
     }
 }
 

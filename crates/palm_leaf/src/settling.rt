@@ -182,7 +182,7 @@ fn settle<L: Ledger>(
         low,
         least: _,
         asked,
-        looks: _,
+        fits: _,
         rows,
         later,
         kept,

@@ -89,7 +89,7 @@ place_within keys n i key at =
     omega (arith, length-take n keys)
 
 -- What lies below all rows lies below each key of theirs.
-below_key : (low : ℕ) (keys rates : List ℕ) (i key : ℕ) → AreKeys keys rates → AllByRecursion (λ (row : Row). low < row_key row) (rows_of keys rates)
+pub below_key : (low : ℕ) (keys rates : List ℕ) (i key : ℕ) → AreKeys keys rates → AllByRecursion (λ (row : Row). low < row_key row) (rows_of keys rates)
     → slice_get (take (length rates) keys) i ≡ Some key → low < key
 below_key low keys [] i key all below at = absurd (cc)
 below_key low [] (rate ∷ rates) i key all below at = absurd (cc)

@@ -1,6 +1,7 @@
 -- A leaf: what its rows are, and how its keys and rates hold them.
-use Rattle.std.specs.Prelude.{◌≡◌, ℕ, ◌≤◌, List, [], ◌∷◌, length, take, All}
-use Rattle.std.specs.List.{AllByRecursion}
+use Rattle.std.specs.Prelude.{◌≡◌, ℕ, ◌≤◌, List, [], ◌∷◌, ◌++◌, length, take, drop, All}
+use Rattle.std.specs.List.{AllByRecursion, insert}
+use Rattle.std.proofs.Common.{suc}
 use Rattle.palm_base.specs.Prefix.{IsPrefix}
 use Rattle.palm_base.specs.Key.{digits_of, IsKey}
 use Rattle.palm_base.specs.Table.{IsTable}
@@ -20,6 +21,11 @@ abbrev pub rows_of : List ℕ → List ℕ → List Row
 rows_of keys [] = []
 rows_of [] (rate ∷ rates) = []
 rows_of (key ∷ keys) (rate ∷ rates) = record { prefix = digits_of key; rate = rate } ∷ rows_of keys rates
+
+-- The keys once one is put in at a place among the first so many, of which those from there on move up by one.
+-- So 20 put in at the place 1 of the first two of 10, 30, 0, 0 makes them 10, 20, 30, 0.
+abbrev pub opened : List ℕ → ℕ → ℕ → ℕ → List ℕ
+opened keys place count key = insert (take count keys) place key ++ drop (suc count) keys
 
 -- The keys and rates hold a leaf's rows: as many keys as there are rates are keys of prefixes, and their rows are a table.
 -- So the keys of 44 and 45, with whatever words after them, and the rates 5, 6 hold the rows of 44 at 5 and of 45 at 6.

@@ -12,12 +12,12 @@ ghost use Rattle.std.specs.Prelude.{slice_get, Some, OnOk, OnErr, vec_len, vec_c
 ghost use Rattle.std.specs.List.{AllByRecursion};
 ghost use Rattle.arrayvec.specs.ArrayVec.{array_vec_len};
 ghost use Rattle.palm_base.specs.Key.{IsKey};
-ghost use Rattle.palm_base.specs.Table.{IsTable, rate_at};
-ghost use Rattle.palm_node.specs.LeafRows.{IsLeaf, rows_of};
+ghost use Rattle.palm_base.specs.Table.{IsTable, put, rate_at};
+ghost use Rattle.palm_node.specs.LeafRows.{HoldsRows, IsLeaf, opened, rows_of};
 
 use arrayvec::ArrayVec;
 use palm_base::{Amount, Digits, MOST_LEAF_ROWS, NoMemory, Row};
-use palm_lanes::find;
+use palm_lanes::{count_at_most, find};
 use std::marker::Model;
 
 /// A leaf: at most `MOST_LEAF_ROWS` rows, whose keys strictly rise. Contracts see the list of rows.
@@ -57,6 +57,41 @@ fn fill(
     for (i, row) in rows.iter().enumerate() {
         keys[i] = row.prefix.key();
         rates.push(row.rate);
+    }
+}
+
+// Puts a key in at a place among the first `len`. Those from there on move up by one.
+fn insert_key(keys: &mut [u64; MOST_LEAF_ROWS], place: usize, len: usize, key: u64)
+    requires within { place ≤ len }
+    requires room { len < MOST_LEAF_ROWS }
+    ensures { keys.new ≡ opened keys.old place len key }
+{
+    keys.copy_within(place..len, place + 1);
+    keys[place] = key;
+}
+
+// Puts a row in among those that the keys and rates hold, in place of the row with its key where there is one.
+fn put_row(
+    keys: &mut [u64; MOST_LEAF_ROWS],
+    rates: &mut ArrayVec<Amount, MOST_LEAF_ROWS>,
+    row: Row,
+)
+    requires held { HoldsRows keys.old rates.old.items }
+    requires room { array_vec_len rates.old < MOST_LEAF_ROWS }
+    ensures held { HoldsRows keys.new rates.new.items }
+    ensures rows { rows_of keys.new rates.new.items ≡ put row (rows_of keys.old rates.old.items) }
+    ensures no_fewer { array_vec_len rates.old ≤ array_vec_len rates.new }
+    ensures few { array_vec_len rates.new ≤ array_vec_len rates.old + 1 }
+{
+    let key = row.prefix.key();
+    let len = rates.len();
+    match find(keys, len, key) {
+        Some(place) => rates[place] = row.rate,
+        None => {
+            let place = count_at_most(keys, len, key);
+            insert_key(keys, place, len, key);
+            rates.insert(place, row.rate);
+        }
     }
 }
 
@@ -140,6 +175,17 @@ impl Leaf {
         rows.reserve(self.len())?;
         self.append_rows_reserved(rows);
         Ok(())
+    }
+
+    /// Puts a row in at the place of its key, in place of one with the same key where there is one. It takes no
+    /// memory.
+    pub fn put(&mut self, row: Row)
+        requires { length self.old < MOST_LEAF_ROWS }
+        ensures row { self.new ≡ put row self.old }
+        ensures no_fewer { length self.old ≤ length self.new }
+        ensures few { length self.new ≤ length self.old + 1 }
+    {
+        put_row(&mut self.keys, &mut self.rates, row);
     }
 
     /// Puts these rows in place of the leaf's. It takes no memory.

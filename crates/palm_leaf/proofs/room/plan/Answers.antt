@@ -15,7 +15,9 @@ returns-clause-plan c =
       no_rows = c.in_ok-rows.ensures.items;
       no_later = c.in_ok-later.ensures.items;
       row_room = λ listed. omega (arith, most, c.in_ok-rows.ensures.capacity, c.row_room.ensures.room listed);
-      looks = λ looks. rw c.deref.ensures.value at (c.only_looks-looks.ensures looks);
+      fits = λ fits.
+          let all = rw c.deref.ensures.value at (c.fits-fits.ensures fits) in
+          (all.0, all.1, all.2, omega (arith, most, all.3));
       later_room = subst (λ n. piece_count MOST_LEAF_ROWS n ≤ vec_capacity c.in_ok-later.later + 1) most counted;
       not_kept = refl;
       waits = all_open _ asked.items c.args.group.now.parts (c.in_ok-asked.ensures.parts ∙ c.as_slice-parts.ensures) c.requires (subst (λ n. AllByRecursion (HasRoom n) asked.items) most c.in_ok-asked.ensures.room);
