@@ -109,6 +109,26 @@ fn looks_up_leaves(rt: HostRuntime) -> Result<(), Fail> {
 }
 
 #[test]
+fn rows_are_put_in_or_written(rt: HostRuntime) -> Result<(), Fail> {
+    let rows = full_rows(&rt, rt.alloc())?;
+    let mut leaf = leaf_of(&rt, &[]);
+    for turn in 0..MOST_LEAF_ROWS {
+        // 7 and 16 have no common factor, so that each row comes once
+        let place = turn * 7 % MOST_LEAF_ROWS;
+        assert!(rt; leaf.len() < MOST_LEAF_ROWS && place < rows.len());
+        leaf.put(rows[place]);
+    }
+    assert_holds(&rt, &leaf, &rows, MOST_LEAF_ROWS);
+    let mut short = leaf_of(&rt, &rows[..9]);
+    let written = row(&rt, "19", 7);
+    assert!(rt; short.len() < MOST_LEAF_ROWS);
+    short.put(written);
+    assert_eq!(rt; short.len(), 9);
+    assert!(rt; short.get(written.prefix.key()) == Some(written.rate));
+    Ok(())
+}
+
+#[test]
 fn puts_other_rows_in_place(rt: HostRuntime) -> Result<(), Fail> {
     let rows = full_rows(&rt, rt.alloc())?;
     let mut leaf = leaf_of(&rt, &rows);
