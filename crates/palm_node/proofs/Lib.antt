@@ -3,3 +3,4 @@ pub mod RisingRows
 pub mod RisingLows
 pub mod TopLevels
 pub mod SameNodes
+pub mod HeldSteps

@@ -224,6 +224,12 @@ fn keeps_paths(rt: HostRuntime) {
     assert_eq!(rt; path.len(), 2);
     assert!(rt; path.get(0) == (root, 3));
     assert!(rt; path.get(1) == (below, 0));
+    let copy = path.copy();
+    assert!(rt; copy.len() == 2 && copy.get(1) == (below, 0));
+    let mut other = path.front(1);
+    assert_eq!(rt; other.len(), 1);
+    other.push(below, 15);
+    assert!(rt; other.get(0) == (root, 3) && other.get(1) == (below, 15));
 }
 
 #[test]
@@ -255,9 +261,10 @@ fn collects_changes(rt: HostRuntime) -> Result<(), Fail> {
 }
 
 #[test]
-fn has_nodes_of_the_stated_widths(rt: HostRuntime) {
+fn has_nodes_and_paths_of_the_stated_widths(rt: HostRuntime) {
     assert_eq!(rt; size_of::<Leaf>(), 264);
     assert_eq!(rt; size_of::<Inner>(), 264);
+    assert_eq!(rt; size_of::<Path>(), 152);
 }
 
 #[test]
