@@ -31,7 +31,7 @@ pub struct NewLeaf {
 /// What is to be done with a leaf, with room for all that comes of it.
 #[derive(Debug, Drop)]
 pub struct LeafPlan<'a> {
-    /// The way to the leaf from the root, which stays with the leaf's group: it is as wide as a node.
+    /// The way to the leaf from the root, which stays with the leaf's group, since it is wide.
     pub path: &'a Path,
     /// The leaf's low, as its parent has written it.
     pub low: u64,

@@ -112,7 +112,7 @@ fn settle_kept<L: Ledger>(
     ensures ticks { steps.new ≤ steps.old + length later.items }
     ensures moved { length arena.new.moved + steps.old ≤ length arena.old.moved + steps.new }
 {
-    let mut pieces = PieceList::from_vec(Vec::with_capacity(alloc, later.len() + 1)?);
+    let mut pieces = PieceList::new(alloc);
     pieces.push(first)?;
     take_later(arena, later, &mut pieces, steps)?;
     gathered.nodes.push(Change {

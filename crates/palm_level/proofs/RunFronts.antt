@@ -1,10 +1,8 @@
--- The first run of changes, and what is counted of changes and paths one after another.
-use Rattle.std.proofs.Common.{◌≡◌, ◌≢◌, ◌≤◌, ◌<◌, ◌+◌, ◌-◌, ℕ, zero, suc, List, [], ◌∷◌, ◌++◌, length, take, drop, get_or, sym, ap, ◌∙◌, arith, subst, Some}
-use Rattle.std.specs.Prelude.{slice_get}
+-- The first run of changes, and what is counted of changes one after another.
+use Rattle.std.proofs.Common.{◌≡◌, ◌≢◌, ◌≤◌, ◌<◌, ◌+◌, ◌-◌, ℕ, zero, suc, List, [], ◌∷◌, ◌++◌, length, take, drop, get_or, sym, ap, ◌∙◌, arith, subst}
 use Rattle.std.specs.List.{AllByRecursion}
 use Rattle.std.proofs.lemmas.List.Sums.{sum_by-cons}
-use Rattle.std.proofs.lemmas.List.{length-drop, length-take-le, take-append-drop, drop_all, length-append, take_more}
-use Rattle.std.proofs.lemmas.Option.{slice_get_within, get_or_from_slice_get}
+use Rattle.std.proofs.lemmas.List.{length-drop, length-take-le, take-append-drop, drop_all, length-append}
 use Rattle.palm_base.specs.Cut.{piece_count}
 use Rattle.palm_base.specs.declared.bounds.TheConstants.{MOST_CHILDREN}
 use Rattle.palm_node.specs.InnerNode.{InnerNode, IsInner}
@@ -69,19 +67,6 @@ room_fits node changes most inner rise is =
   where
     by : (n m : ℕ) → n ≤ m → piece_count MOST_CHILDREN n ≤ piece_count MOST_CHILDREN m
     by n m less = omega (arith, less)
-
--- One step more of a path.
-pub step_more : (path above : List (NodeId × ℕ)) (i : ℕ) (step : NodeId × ℕ) → 1 ≤ i → slice_get path (i - 1) ≡ Some step → above ≡ take (i - 1) path → above ++ step ∷ [] ≡ take (i + 1 - 1) path
-step_more path above i step some at is =
-    let here : i + 1 - 1 ≡ suc (i - 1) = omega (arith, some) in
-    let less = slice_get_within path (i - 1) step at in
-    ap (λ l. l ++ step ∷ []) is
-    ∙ ap (λ s. take (i - 1) path ++ s ∷ []) (sym (get_or_from_slice_get path (i - 1) step step at))
-    ∙ sym (take_more path (i - 1) step less)
-    ∙ ap (λ n. take n path) (ω i some)
-  where
-    ω : (i : ℕ) → 1 ≤ i → (i - 1) + 1 ≡ i + 1 - 1
-    ω i some = omega (arith, some)
 
 pub differ : (id other : NodeId) → not (same_place id other) ≡ true → id ≡ other → ⊥
 differ id other apart same =

@@ -143,12 +143,7 @@ fn make_room(alloc: Global, inner: &Inner, changes: &[Change]) -> Result<Room, N
 fn path_to_parent(path: &Path) -> Path
     ensures { result ≡ path_above path.now }
 {
-    let mut above = Path::new();
-    for i in 1..path.len() {
-        let (node, child) = path.get(i - 1);
-        above.push(node, child);
-    }
-    above
+    path.front(path.len().saturating_sub(1))
 }
 
 // The low of the node that a path leads to: its parent's separator before it, and 0 where it is the first child.

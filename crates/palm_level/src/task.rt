@@ -144,7 +144,7 @@ fn put_back<L: Ledger>(
 fn stay(alloc: Global, low: u64, node: NodeId) -> Result<PieceList, NoMemory>
     ensures { IfOk result (λ pieces. pieces ≡ record { low = low; id = node } ∷ []) }
 {
-    let mut pieces = PieceList::from_vec(Vec::with_capacity(alloc, 1)?);
+    let mut pieces = PieceList::new(alloc);
     pieces.push(Piece { low, id: node })?;
     Ok(pieces)
 }

@@ -4,3 +4,4 @@ pub mod RisingLows
 pub mod TopLevels
 pub mod SameNodes
 pub mod PutRows
+pub mod HeldSteps

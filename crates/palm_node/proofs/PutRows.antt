@@ -48,8 +48,10 @@ rows_opened (a ∷ keys) (r ∷ rates) place row k few all table prefix is none 
   where
     whole : row_key (row_of a r) ≡ a
     whole = all.0.whole
+
     counted : at_most k (suc (length rates)) (a ∷ keys) ≡ cond (leb a k) 1 0 + at_most k (length rates) keys
     counted = sum_by-cons (λ x. cond (leb x k) 1 0) a (take (length rates) keys)
+
     by : ((a < k) ⊎ (k ≤ a)) → (place : ℕ) → place ≡ at_most k (suc (length rates)) (a ∷ keys)
         → ((behind : ℕ) → (Contains (take (length rates) keys) k → ⊥) → behind ≡ at_most k (length rates) keys → rows_of (opened keys behind (length rates) k) (insert rates behind row.rate) ≡ put row (rows_of keys rates))
         → rows_of (opened (a ∷ keys) place (suc (length rates)) k) (insert (r ∷ rates) place row.rate) ≡ put row (row_of a r ∷ rows_of keys rates)

@@ -1,2 +1,3 @@
 pub mod InnerNode
 pub mod LeafRows
+pub mod PathSteps

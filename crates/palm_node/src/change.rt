@@ -1,10 +1,8 @@
 // What a pass makes of the nodes of a level, as the level below tells the one above.
-use crate::id::{NodeId, Piece};
+use crate::id::NodeId;
 use crate::path::Path;
+use crate::piece_list::PieceList;
 use palm_base::{ItemList, RowList};
-
-/// The nodes that stand for an old one, in order. Contracts see the list.
-pub type PieceList = ItemList<Piece>;
 
 /// The changes of a level, in order. Contracts see the list.
 pub type ChangeList = ItemList<Change>;

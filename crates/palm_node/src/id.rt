@@ -8,7 +8,9 @@ pub struct NodeId {
 }
 
 /// One of the nodes that stand for an old one, as the level above is told of it.
-#[derive(Clone, Copy, Debug, PartialEq, Eq)]
+// It has a default since a list of pieces has places in itself, and needs a value for those that hold none yet. No
+// such value is read.
+#[derive(Clone, Copy, Debug, Default, PartialEq, Eq)]
 pub struct Piece {
     /// The packed key at which its range begins: the separator to its left in the node above, and 0 of a first
     /// child, which has none.

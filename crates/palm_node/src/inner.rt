@@ -164,6 +164,7 @@ impl Inner {
     pub fn route(&self, key: u64) -> usize
         ensures route { result ≡ count_by (λ s. nat_le s key) self.now.separators }
         ensures inside { result < length self.now.children }
+        ensures few { result < MOST_CHILDREN }
     {
         count_at_most(&self.separators, self.children.len() - 1, key)
     }

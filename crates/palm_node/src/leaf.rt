@@ -71,11 +71,7 @@ fn insert_key(keys: &mut [u64; MOST_LEAF_ROWS], place: usize, len: usize, key: u
 }
 
 // Puts a row in among those that the keys and rates hold, in place of the row with its key where there is one.
-fn put_row(
-    keys: &mut [u64; MOST_LEAF_ROWS],
-    rates: &mut ArrayVec<Amount, MOST_LEAF_ROWS>,
-    row: Row,
-)
+fn put_row(keys: &mut [u64; MOST_LEAF_ROWS], rates: &mut ArrayVec<Amount, MOST_LEAF_ROWS>, row: Row)
     requires held { HoldsRows keys.old rates.old.items }
     requires room { array_vec_len rates.old < MOST_LEAF_ROWS }
     ensures held { HoldsRows keys.new rates.new.items }

@@ -9,13 +9,15 @@ mod inner;
 mod leaf;
 mod node;
 mod path;
+mod piece_list;
 #[cfg(test)]
 mod tests;
 
-pub use change::{Change, ChangeList, Changes, PieceList, Removed, RemovedList};
+pub use change::{Change, ChangeList, Changes, Removed, RemovedList};
 pub use cut::{piece_size, pieces};
 pub use id::{NodeId, Piece};
 pub use inner::Inner;
 pub use leaf::Leaf;
 pub use node::Node;
 pub use path::{MOST_PATH, Path};
+pub use piece_list::PieceList;

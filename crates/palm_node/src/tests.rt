@@ -244,6 +244,12 @@ fn keeps_paths(rt: HostRuntime) {
     assert_eq!(rt; path.len(), 2);
     assert!(rt; path.get(0) == (root, 3));
     assert!(rt; path.get(1) == (below, 0));
+    let copy = path.copy();
+    assert!(rt; copy.len() == 2 && copy.get(1) == (below, 0));
+    let mut other = path.front(1);
+    assert_eq!(rt; other.len(), 1);
+    other.push(below, 15);
+    assert!(rt; other.get(0) == (root, 3) && other.get(1) == (below, 15));
 }
 
 #[test]
@@ -253,7 +259,6 @@ fn collects_changes(rt: HostRuntime) -> Result<(), Fail> {
     let mut pieces = PieceList::new(rt.alloc());
     assert!(rt; pieces.is_empty());
     pieces.push(piece)?;
-    let pieces = PieceList::from_vec(pieces.into_list());
     assert_eq!(rt; pieces.len(), 1);
     assert!(rt; pieces.get(0) == piece);
     let mut nodes = ChangeList::new(rt.alloc());
@@ -275,9 +280,32 @@ fn collects_changes(rt: HostRuntime) -> Result<(), Fail> {
 }
 
 #[test]
-fn has_nodes_of_the_stated_widths(rt: HostRuntime) {
+fn keeps_pieces_in_order_past_those_that_stand_in_the_list(rt: HostRuntime) -> Result<(), Fail> {
+    let piece = |low: u64, place: usize| Piece {
+        low,
+        id: NodeId { place },
+    };
+    let all = [piece(0, 7), piece(20, 8), piece(30, 9)];
+    let mut pieces = PieceList::new(rt.alloc());
+    pieces.push(all[0])?;
+    pieces.push(all[1])?;
+    pieces.push(all[2])?;
+    assert_eq!(rt; pieces.len(), 3);
+    assert!(rt; pieces.get(2) == all[2]);
+    assert!(rt; pieces.as_slice() == all.as_slice());
+    let copy = pieces.try_copy()?;
+    assert!(rt; copy.as_slice() == all.as_slice());
+    let few = PieceList::from_vec(Vec::from_slice(rt.alloc(), &all[1..])?);
+    assert!(rt; few.as_slice() == &all[1..]);
+    Ok(())
+}
+
+#[test]
+fn has_nodes_paths_and_lists_of_pieces_of_the_stated_widths(rt: HostRuntime) {
     assert_eq!(rt; size_of::<Leaf>(), 264);
     assert_eq!(rt; size_of::<Inner>(), 264);
+    assert_eq!(rt; size_of::<Path>(), 152);
+    assert_eq!(rt; size_of::<PieceList>(), 48);
 }
 
 #[test]

@@ -24,7 +24,7 @@ use std::alloc::Global;
 use std::sync::ledger::Ledger;
 
 // What is left of a root leaf. `None` where it stays.
-fn leaf_left(alloc: Global, changes: &[Change]) -> Result<Option<PieceList>, NoMemory>
+fn leaf_left(changes: &[Change]) -> Result<Option<PieceList>, NoMemory>
     ensures { IfOk result (λ left. MatchOption left (is_still changes.now ≡ true) (IsHeadOf changes.now)) }
 {
     let Some(change) = changes.first() else {
@@ -33,8 +33,7 @@ fn leaf_left(alloc: Global, changes: &[Change]) -> Result<Option<PieceList>, NoM
     if all_stand_alone(changes) {
         return Ok(None);
     }
-    let pieces = Vec::from_slice(alloc, change.pieces.as_slice())?;
-    Ok(Some(PieceList::from_vec(pieces)))
+    Ok(Some(change.pieces.try_copy()?))
 }
 
 // What is left below the root. `None` where it stays.
@@ -51,7 +50,7 @@ fn find_left(
     ensures few { IfOk result (λ left. (n : ℕ) → IsWithin n changes.now → IsFew n left) }
 {
     if shape.levels <= 1 {
-        let left = leaf_left(alloc, changes.nodes.as_slice())?;
+        let left = leaf_left(changes.nodes.as_slice())?;
         return Ok(left);
     }
     let Node::Inner(inner) = arena.read(shape.root) else {

@@ -9,5 +9,5 @@ returns-clause-end g c =
     let old = map_of c.args.arena.now.places in
     let new = map_of c.take_later.new.arena.places in
     let taken = subst (λ pieces. AreTaken old new pieces c.take_later.new.pieces c.args.later.items) c.in_ok-push.ensures.ok c.in_ok-take_later.ensures.taken in
-    kept_ends old new c.args.first c.args.path.now c.args.later.items c.take_later.new.pieces c.args.gathered.now _ (subst (λ pieces. AreTaken old new pieces c.take_later.new.pieces c.args.later.items) (ap (λ pieces. pieces ++ c.args.first ∷ []) (c.from_vec-pieces.ensures ∙ c.in_ok-with_capacity.ensures.items)) taken)
+    kept_ends old new c.args.first c.args.path.now c.args.later.items c.take_later.new.pieces c.args.gathered.now _ (subst (λ pieces. AreTaken old new pieces c.take_later.new.pieces c.args.later.items) (ap (λ pieces. pieces ++ c.args.first ∷ []) c.new-pieces.ensures) taken)
     (c.in_ok-push-2.ensures.ok ∙ rw c.copy.ensures refl) refl refl

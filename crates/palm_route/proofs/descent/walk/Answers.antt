@@ -31,7 +31,10 @@ unreachable-requires c =
 pub push-requires : goal.push-requires
 push-requires c =
     let levels = tree_levels (map_of c.args.arena.now.places) c.args.shape c.requires.tree in
-    omega (arith, levels.1, c.loop-level.invariant.stands.steps, c.loop-level-test.true)
+    record {
+      room = omega (arith, levels.1, c.loop-level.invariant.stands.steps, c.loop-level-test.true);
+      child = c.route-child.ensures.few;
+    }
 
 pub loop-level-preserved : goal.loop-level-preserved
 loop-level-preserved c =
