@@ -1,9 +1,13 @@
 pub mod Appended
+pub mod Arrivals
 pub mod Batches
+pub mod Builds
 pub mod Chains
 pub mod CutParts
 pub mod CutSteps
 pub mod Cuts
+pub mod DeskLaws
+pub mod DeskOrder
 pub mod EmptyTree
 pub mod Every
 pub mod Examples
@@ -47,4 +51,3 @@ pub mod TableSplits
 pub mod Tables
 pub mod Tops
 pub mod TreeExamples
-pub mod Builds

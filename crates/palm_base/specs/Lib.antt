@@ -1,4 +1,6 @@
+pub mod Arrivals
 pub mod Cut
+pub mod Desk
 pub mod Extends
 pub mod Fronts
 pub mod FurtherLaws

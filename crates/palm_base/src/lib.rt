@@ -4,6 +4,7 @@
 mod amount;
 mod bounds;
 mod call;
+pub mod desk;
 mod digits;
 pub mod laws;
 mod list;
