@@ -1,0 +1,14 @@
+pub mod Answering
+pub mod CallWords
+pub mod Callers
+pub mod Cells
+pub mod Collecting
+pub mod Ends
+pub mod Nexting
+pub mod Opening
+pub mod Polling
+pub mod Scanning
+pub mod SeatViews
+pub mod Stays
+pub mod Submitting
+pub mod Taking

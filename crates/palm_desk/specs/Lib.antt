@@ -1,0 +1,10 @@
+pub mod CallerCalls
+pub mod DriverCalls
+pub mod Holding
+pub mod Opened
+pub mod Plays
+pub mod Rule
+pub mod Scans
+pub mod Seats
+pub mod Views
+pub mod Words
