@@ -250,9 +250,14 @@ found_one v₀ v w c x v_is loaded w_is x_is lt =
     let n : ℕ = next_number v in
     let same_n : n ≡ next_number v₀ = ap next_number v_is in
     let found : found_if x n c ≡ c + 1 = found_here x n c (x_is ∙ ap called (sym same_n)) in
-    let scan : List (ℕ × ℕ) = scan_for c v.drives.scan ++ (c, x) ∷ [] in
-    (lt, (scan, w_is ∙ (λ t. driving (record (v_is t).drives { found = found t; loaded = sym loaded t; scan = scan; loads = (v_is t).drives.loads + 1 }) (v_is t))
-    ∙ ap (λ z. driving (record v₀.drives { found = c + 1; scan = scan; loads = z }) v₀) (let g : v₀.drives.loads + c + 1 ≡ v₀.drives.loads + (c + 1) = omega arith in g)))
+    let scan : List (ℕ × ℕ) = scan_for c v.drives.scan ++ (c, x) ∷ [] in (
+      lt,
+      (
+        scan,
+        w_is ∙ (λ t. driving (record (v_is t).drives { found = found t; loaded = sym loaded t; scan = scan; loads = (v_is t).drives.loads + 1 }) (v_is t))
+            ∙ ap (λ z. driving (record v₀.drives { found = c + 1; scan = scan; loads = z }) v₀) (let g : v₀.drives.loads + c + 1 ≡ v₀.drives.loads + (c + 1) = omega arith in g),
+      ),
+    )
 
 -- a state of each caller was loaded, and none was
 pub found_nowhere : (v₀ v : View) (c : ℕ) → v ≡ driving (record v₀.drives { scan = v.drives.scan; loads = v₀.drives.loads + c }) v₀ → c ≡ callers v₀.terms → 0 < c

@@ -61,10 +61,8 @@ impl DriverSeat {
         requires { self.old.desk ≡ desk.now }
         ensures some { IfSome result (λ entry. TakesNext self.old self.new entry) }
         ensures none { IfNone result (FindsNone self.old self.new) }
-        ensures quota {
-            (c : ℕ) → c < length self.new.terms.firsts
-            → count_of c self.new.taken ≤ self.new.terms.quota
-        }
+        ensures quota { (c : ℕ) → c < length self.new.terms.firsts
+            → count_of c self.new.taken ≤ self.new.terms.quota }
     {
         let number = self.base + self.taken as u64;
         let caller = find_next(desk, &mut self.seat, &self.counts, self.window, number)?;

@@ -10,6 +10,8 @@ mod caller;
 mod driver;
 mod next;
 mod open;
+#[cfg(test)]
+mod tests;
 mod views;
 mod words;
 

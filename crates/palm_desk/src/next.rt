@@ -47,21 +47,17 @@ impl Play<Slot, View> for Take {
 // Loads the state of a caller's next cell. That of the caller 0 begins a scan.
 fn look(desk: &Desk, seat: &mut Seat<Slot, View>, caller: usize, at: usize) -> u64
     requires table { seat.old.table_id ≡ desk.now }
-    requires view {
-        (seat.old.me.0.role ≡ Driving) × (caller < callers seat.old.me.0.terms)
-        × (at ≡ cell seat.old.me.0.terms caller (count_of caller seat.old.me.0.drives.taken))
-    }
+    requires view { (seat.old.me.0.role ≡ Driving) × (caller < callers seat.old.me.0.terms)
+        × (at ≡ cell seat.old.me.0.terms caller (count_of caller seat.old.me.0.drives.taken)) }
     requires turn { 0 < caller → length seat.old.me.0.drives.scan ≡ caller }
     requires words { 4 * at + 2 < seat.old.table_id.words }
     requires few { at < 4096 }
     ensures table { seat.new.table_id ≡ seat.old.table_id }
-    ensures view {
-        seat.new.me.0
+    ensures view { seat.new.me.0
         ≡ driving
-            (scanned (scan_for caller seat.old.me.0.drives.scan) (next_number seat.old.me.0)
-                caller result seat.old.me.0.drives)
-            seat.old.me.0
-    }
+        (scanned (scan_for caller seat.old.me.0.drives.scan) (next_number seat.old.me.0)
+        caller result seat.old.me.0.drives)
+        seat.old.me.0 }
     ensures slots { seat.new.me.1 ≡ seat.old.me.1 }
 {
     if caller == 0 {
@@ -80,19 +76,13 @@ pub(crate) fn find_next(
     number: u64,
 ) -> Option<usize>
     requires table { seat.old.table_id ≡ desk.now }
-    requires view {
-        (seat.old.me.0.role ≡ Driving) × (number ≡ next_number seat.old.me.0) × (number < 2 ^ 62)
-    }
+    requires view { (seat.old.me.0.role ≡ Driving) × (number ≡ next_number seat.old.me.0) × (number < 2 ^ 62) }
     requires fresh { (seat.old.me.0.drives.found ≡ 0) × (seat.old.me.0.drives.loaded ≡ []) }
-    requires counts {
-        (length counts.now ≡ callers seat.old.me.0.terms)
+    requires counts { (length counts.now ≡ callers seat.old.me.0.terms)
         × ((c : ℕ) → c < length counts.now
-            → slice_index counts.now c ≡ count_of c seat.old.me.0.drives.taken)
-    }
-    requires words {
-        (seat.old.table_id.words ≡ 4 * (length counts.now * window) + 2)
-        × (window ≡ seat.old.me.0.terms.window)
-    }
+        → slice_index counts.now c ≡ count_of c seat.old.me.0.drives.taken) }
+    requires words { (seat.old.table_id.words ≡ 4 * (length counts.now * window) + 2)
+        × (window ≡ seat.old.me.0.terms.window) }
     requires small { (0 < length counts.now) × (length counts.now ≤ 64) × (0 < window) × (window ≤ 64) }
     ensures table { seat.new.table_id ≡ seat.old.table_id }
     ensures slots { seat.new.me.1 ≡ seat.old.me.1 }
@@ -117,14 +107,10 @@ pub(crate) fn take_found(
     number: u64,
 ) -> Call
     requires table { seat.old.table_id ≡ desk.now }
-    requires view {
-        (seat.old.me.0.role ≡ Driving)
+    requires view { (seat.old.me.0.role ≡ Driving)
         × (at ≡ cell seat.old.me.0.terms caller (count_of caller seat.old.me.0.drives.taken))
-        × (number ≡ next_number seat.old.me.0)
-    }
-    requires found {
-        (seat.old.me.0.drives.found ≡ caller + 1) × (seat.old.me.0.drives.loaded ≡ [])
-    }
+        × (number ≡ next_number seat.old.me.0) }
+    requires found { (seat.old.me.0.drives.found ≡ caller + 1) × (seat.old.me.0.drives.loaded ≡ []) }
     requires words { 4 * at + 5 < seat.old.table_id.words }
     requires fits { (at < 4096) × (number < 2 ^ 62) }
     ensures table { seat.new.table_id ≡ seat.old.table_id }

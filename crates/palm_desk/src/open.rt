@@ -63,24 +63,16 @@ fn caller_seat(
     quota: usize,
 ) -> Result<CallerSeat, NoMemory>
     requires table { seat.old.table_id ≡ desk.now }
-    requires words {
-        seat.old.table_id.words ≡ 4 * (length seat.old.me.0.terms.firsts * window) + 2
-    }
-    requires view {
-        (seat.old.me.0.role ≡ Driving) × (seat.old.me.0.drives.seats ≡ caller)
-        × (seat.old.me.0.terms.window ≡ window) × (seat.old.me.0.terms.quota ≡ quota)
-    }
-    requires small {
-        (caller < length seat.old.me.0.terms.firsts)
+    requires words { seat.old.table_id.words ≡ 4 * (length seat.old.me.0.terms.firsts * window) + 2 }
+    requires view { (seat.old.me.0.role ≡ Driving) × (seat.old.me.0.drives.seats ≡ caller)
+        × (seat.old.me.0.terms.window ≡ window) × (seat.old.me.0.terms.quota ≡ quota) }
+    requires small { (caller < length seat.old.me.0.terms.firsts)
         × (length seat.old.me.0.terms.firsts ≤ 64)
-        × (0 < window) × (window ≤ 64) × (quota ≤ 2 ^ 40)
-    }
+        × (0 < window) × (window ≤ 64) × (quota ≤ 2 ^ 40) }
     ensures table { seat.new.table_id ≡ seat.old.table_id }
-    ensures ok {
-        IfOk result (λ s.
-            (s ≡ caller_state seat.old.table_id (newcomer seat.old.me.0))
-            × (seat.new.me ≡ (seated seat.old.me.0, seat.old.me.1)))
-    }
+    ensures ok { IfOk result (λ s.
+        (s ≡ caller_state seat.old.table_id (newcomer seat.old.me.0))
+        × (seat.new.me ≡ (seated seat.old.me.0, seat.old.me.1))) }
 {
     let numbers = zeros(alloc, window, 0)?;
     let seat = desk.table.shared.split_seat::<NewSeat>(seat);
@@ -110,15 +102,11 @@ pub fn open_desk(
     requires places { (base ≤ 2 ^ 61) × ((c : ℕ) → slice_index firsts.now c ≤ 2 ^ 61) }
     requires window { (1 ≤ window) × (window ≤ 64) }
     requires quota { (1 ≤ quota) × (quota ≤ 2 ^ 40) }
-    ensures driver {
-        IfOk result (λ opened.
-            opened.1 ≡ new_driver opened.0 (terms_with base firsts.now window quota))
-    }
-    ensures callers {
-        IfOk result (λ opened.
-            AreNewCallers opened.0 (terms_with base firsts.now window quota)
-                (length firsts.now) opened.2.items)
-    }
+    ensures driver { IfOk result (λ opened.
+        opened.1 ≡ new_driver opened.0 (terms_with base firsts.now window quota)) }
+    ensures callers { IfOk result (λ opened.
+        AreNewCallers opened.0 (terms_with base firsts.now window quota)
+        (length firsts.now) opened.2.items) }
 {
     let callers = firsts.len();
     let window = window as usize;

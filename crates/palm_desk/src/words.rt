@@ -84,14 +84,10 @@ fn limit_of(word: u64) -> Limit
 
 /// The call that was sent in these words.
 pub(crate) fn call_of(words: &CallWords) -> Call
-    requires {
-        (call : AnyCall) × IsCall call
-        × (spell call ≡ words.now.first ∷ words.now.second ∷ words.now.third ∷ [])
-    }
-    ensures {
-        (call : AnyCall) → IsCall call
-        → spell call ≡ words.now.first ∷ words.now.second ∷ words.now.third ∷ [] → result ≡ call
-    }
+    requires { (call : AnyCall) × IsCall call
+        × (spell call ≡ words.now.first ∷ words.now.second ∷ words.now.third ∷ []) }
+    ensures { (call : AnyCall) → IsCall call
+        → spell call ≡ words.now.first ∷ words.now.second ∷ words.now.third ∷ [] → result ≡ call }
 {
     match words.third >> 60 {
         1 => Call::Set {

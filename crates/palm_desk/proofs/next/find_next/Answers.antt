@@ -6,7 +6,7 @@ pub returns-then-look-number-clause-found : goal.returns-then-look-number-clause
 returns-then-look-number-clause-found c =
     let i = c.loop-caller.invariant in let v = c.requires.view in let many = c.requires.counts.0 in
     found_one c.args.seat.now.me.0 c.loop-caller.seat.me.0 c.look.new.seat.me.0 c.loop-caller.caller c.look.result i.view c.requires.fresh.1
-        c.look.ensures.view (c.if-look-number.true ∙ ap (λ n. 4 * n + 1) v.1) (omega arith)
+    c.look.ensures.view (c.if-look-number.true ∙ ap (λ n. 4 * n + 1) v.1) (omega arith)
 
 pub loop-caller-preserved : goal.loop-caller-preserved
 loop-caller-preserved c =

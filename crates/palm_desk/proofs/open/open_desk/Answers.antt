@@ -29,4 +29,4 @@ pub invariant_of-driver : goal.invariant_of-driver
 invariant_of-driver c = let i = c.loop-caller.invariant in let a = c.args in let r = c.requires in
     let all : c.loop-caller.caller ≡ length a.firsts.now = omega arith in
     subst (λ fs. DriverIsReady c.loop-caller.seat.table_id.words c.loop-caller.seat.me a.base a.window (length a.firsts.now) 0 0 fs c.in_ok-counts.counts.items c.in_ok-order.order.items) (sym c.in_ok-firsts.ensures)
-        (driver_new c.loop-caller.seat.table_id.words c.loop-caller.seat.me a.base a.window a.quota a.firsts.now c.in_ok-counts.counts.items c.in_ok-order.order.items (i.view ∙ ap (made (terms_with a.base a.firsts.now a.window a.quota)) all) i.held i.words r.callers.0 r.callers.1 r.places.1 r.places.0 r.window.0 r.window.1 r.quota.1 c.in_ok-counts.ensures c.in_ok-order.ensures)
+    (driver_new c.loop-caller.seat.table_id.words c.loop-caller.seat.me a.base a.window a.quota a.firsts.now c.in_ok-counts.counts.items c.in_ok-order.order.items (i.view ∙ ap (made (terms_with a.base a.firsts.now a.window a.quota)) all) i.held i.words r.callers.0 r.callers.1 r.places.1 r.places.0 r.window.0 r.window.1 r.quota.1 c.in_ok-counts.ensures c.in_ok-order.ensures)

@@ -17,7 +17,7 @@ returns-then-front-number c =
     let s = c.self.inside.seat in let t = c.self.inside.turns in let r = c.self.invariant in let le = r.got_le in
     let o = oldest _ _ _ _ _ _ _ _ r c.index-number.result.now c.if-self.false c.index-number.ensures in
     subst (λ v. Polled v (caller_state c.load-front.new.seat.table_id c.load-front.new.seat.me.0) Pending) c.self.view_is
-        (told_pending _ _ s.me.0 c.load-front.new.seat.me.0 _ _ _ c.load-front.ensures.0 o.1 c.if-front-number.true c.load-front.ensures.2.0)
+    (told_pending _ _ s.me.0 c.load-front.new.seat.me.0 _ _ _ c.load-front.ensures.0 o.1 c.if-front-number.true c.load-front.ensures.2.0)
 
 pub swap-requires : goal.swap-requires
 swap-requires c =
@@ -63,5 +63,5 @@ returns c =
     let e2 = on_collect _ _ _ _ _ _ _ _ r c.load-front.new.seat.me c.swap.new.seat.me c.load-front.result c.swap.result _ c.index-number.result.now o.0 e1 o.1 refl c.swap.ensures.2 in
     let e3 = on_exchange _ _ _ _ _ _ _ _ r c.swap.new.seat.me c.exchange-found.new.seat.me c.turn.new.self.me c.load-front.result c.index-number.result.now e2.0 c.exchange-found.result (let ne = c.if-self.false in omega arith) e2.1 c.exchange-found.ensures.2 c.exchange-found.ensures.3 c.turn.ensures.2 in
     subst (λ v. Polled v (caller_state c.turn.new.self.table_id c.turn.new.self.me.0) (Ready c.in-Some.answered.number c.in-Some.answered.reply)) c.self.view_is
-        (told_ready _ _ s.me.0 c.turn.new.self.me.0 c.load-front.result _ _ _ _ _ _
-        (c.turn.ensures.0 ∙ c.exchange-found.ensures.0 ∙ c.swap.ensures.0 ∙ c.load-front.ensures.0) e3.0 c.in-Some.is o.1 c.if-front-number.false e3.1)
+    (told_ready _ _ s.me.0 c.turn.new.self.me.0 c.load-front.result _ _ _ _ _ _
+    (c.turn.ensures.0 ∙ c.exchange-found.ensures.0 ∙ c.swap.ensures.0 ∙ c.load-front.ensures.0) e3.0 c.in-Some.is o.1 c.if-front-number.false e3.1)

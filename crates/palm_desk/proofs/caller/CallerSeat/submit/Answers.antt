@@ -105,4 +105,4 @@ invariant_of-self c =
     let a = on_arrive s.me c.store-3.new.seat.me c.fetch_add-number.new.seat.me c.args.call _ w.call sent c.fetch_add-number.ensures.2 in
     let p = on_post _ _ _ _ _ _ _ _ r c.fetch_add-number.new.seat.me c.store-4.new.seat.me c.args.call c.fetch_add-number.result some_room some_left a.2 c.store-4.ensures.2 in
     subst (λ z. CallerIsReady z.words c.store-4.new.seat.me t.caller t.window t.quota (t.made + 1) t.got (slice_set t.numbers.items (t.made % t.window) c.fetch_add-number.result))
-        (sym (c.store-4.ensures.0 ∙ c.fetch_add-number.ensures.0 ∙ c.store-3.ensures.0 ∙ c.store-2.ensures.0 ∙ c.store.ensures.0)) p.1
+    (sym (c.store-4.ensures.0 ∙ c.fetch_add-number.ensures.0 ∙ c.store-3.ensures.0 ∙ c.store-2.ensures.0 ∙ c.store.ensures.0)) p.1

@@ -12,7 +12,7 @@ invariant_of-self-2 c =
     let one = taken_one _ _ _ _ _ _ _ _ _ _ r c.find_next.new.seat.me c.take_found-call.new.seat.me f.1.0 c.in_ok-caller.caller _ _ c.take_found-call.result
     (λ t. (f.1.1 t, c.in_ok-caller.ensures.slots t)) c.take_found-call.ensures.took c.take_found-call.ensures.slots lt n.0 refl in
     subst (λ z. DriverIsReady z.words c.take_found-call.new.seat.me s.base s.window s.callers (s.taken + 1) s.answered s.firsts.items (slice_set s.counts.items c.in_ok-caller.caller (c.index-count.result.now + 1)) (slice_set s.order.items (s.taken % (s.callers * s.window)) (c.in_ok-caller.caller * s.window + c.index-count.result.now % s.window)))
-        (sym (c.take_found-call.ensures.table ∙ c.in_ok-caller.ensures.table)) one
+    (sym (c.take_found-call.ensures.table ∙ c.in_ok-caller.ensures.table)) one
 
 pub returns-clause-quota : goal.returns-clause-quota
 returns-clause-quota c = in_quota _ _ _ _ _ _ _ _ _ _ (invariant_of-self-2 c)
