@@ -119,6 +119,7 @@ fn rows_are_put_in_or_written(rt: HostRuntime) -> Result<(), Fail> {
         leaf.put(rows[place]);
     }
     assert_holds(&rt, &leaf, &rows, MOST_LEAF_ROWS);
+    assert!(rt; 9 <= rows.len());
     let mut short = leaf_of(&rt, &rows[..9]);
     let written = row(&rt, "19", 7);
     assert!(rt; short.len() < MOST_LEAF_ROWS);
