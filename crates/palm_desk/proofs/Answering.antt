@@ -1,47 +1,22 @@
 -- The steps of an answer, and of the end of a batch.
-use Rattle.std.proofs.Common.{◌≡◌, ℕ, zero, suc, ◌+◌, ◌-◌, ◌*◌, ◌/◌, ◌%◌, ◌^◌, ◌<◌, ◌≤◌, ◌≢◌, ◌⊎◌, List, [], ◌∷◌, ◌++◌, length, get_or, slice_index, set, take, sym, refl, ap, ◌∙◌, subst, arith, cond, eq-eqb, ne_eqb, mod-lt, mul-le-mul_right, length-set, length-append, get_or-set_other, get_or-set_same, inl, inr, ⊎_elim, Some, None}
-use mathlib.Core.Option.{none, some, some-injective, some-ne-none}
-use mathlib.Core.Logic.{dite}
-use native.Mathlib.Decide.{ℕ_discrete, dec_le}
+use Rattle.std.proofs.Common.{◌≡◌, ℕ, suc, ◌+◌, ◌-◌, ◌*◌, ◌%◌, ◌<◌, ◌≤◌, List, [], ◌∷◌, length, get_or, take, sym, refl, ap, ◌∙◌, subst, arith, mod-lt, mul-le-mul_right, length-append, None}
+use mathlib.Core.Option.{none}
 use lib.ListN.{get_elem?}
-use native.Mathlib.Nat.{add-mod_right}
-use lib.Seq.{length-take-le, set-get_or, take-take}
-use Rattle.std.proofs.lemmas.List.{append-nil}
-use Rattle.atomic_table.specs.Table.{State, Me, step, keeps, takes, gives, Allows, put_back, rest}
-use Rattle.atomic_table.proofs.Lists.{at_longer, at_last, set_here, set_else}
-use Rattle.palm_base.specs.declared.call.Call.{Call}
-use Rattle.palm_base.specs.declared.call.Entry.{Entry}
+use Rattle.atomic_table.specs.Table.{step, Allows, rest}
 use Rattle.palm_base.specs.declared.call.Reply.{Reply}
 use Rattle.palm_base.specs.declared.desk.Terms.{Terms}
-use Rattle.palm_base.specs.declared.desk.Event.TheVariants.{Arrive, Post, Take, Answer, Finish, Collect}
-use Rattle.palm_base.specs.Arrivals.{entry, count_of, made_by, replies_for}
-use Rattle.palm_base.specs.Desk.{Machine, Lawful, put, next_entry, arrive, post, collect, May}
-use Rattle.palm_desk.specs.declared.views.CallerView.{CallerView}
-use Rattle.palm_desk.specs.declared.views.Role.TheVariants.{Calling, Driving}
+use Rattle.palm_base.specs.Arrivals.{count_of}
 use Rattle.palm_desk.specs.declared.views.View.{View}
-use Rattle.palm_desk.specs.Views.{calling, drafted, arrived, posted_one, looked, given_one, called}
-use Rattle.palm_desk.specs.Rule.{Desk, Homes, Holder, cell, state_at, words_at, Begins, Empty, Out, Posted, CellOk, CallerOk, CallerAt, DriverOk, InWindow, CellAt, IsRuled}
-use Rattle.palm_base.proofs.Arrivals.{at_below, some_at, length-made_by, made_by-other, made_by-own, call_at, take_more, count_of-take, count_of-take_all, length-replies_for, early, late, at_most}
-use Rattle.palm_base.proofs.DeskLaws.{at_put, arrives, posts, collects}
-use Rattle.palm_base.proofs.Arrivals.{take_one}
-use Rattle.palm_desk.specs.declared.views.DriverView.{DriverView}
-use Rattle.palm_base.specs.Desk.{take_next, reply, finish}
-use Rattle.palm_desk.specs.Views.{driving, scanned, read, took, replied, finished, found_if}
-use Rattle.palm_desk.specs.Plays.{Starts, Scans, Reads, Takes, Answers, Finishes, front_reply}
-use Rattle.palm_base.proofs.Arrivals.{at_call, one_number, count_of-take_one, one_same}
-use Rattle.palm_base.proofs.DeskLaws.{takes_next, replies, finishes}
-use mathlib.Core.Path.{Path}
-use Rattle.std.proofs.Common.{drop, length-drop}
-use Rattle.std.proofs.Common.{slice_set}
+use Rattle.palm_desk.specs.Rule.{Holder, cell, IsRuled}
+use Rattle.palm_base.proofs.Arrivals.{some_at}
+use Rattle.palm_desk.specs.Views.{driving, replied}
+use Rattle.palm_desk.specs.Plays.{Answers, Finishes}
 use Rattle.atomic_table.specs.Table.{Step}
 use Rattle.std.proofs.lemmas.List.{get_or_default}
 use Rattle.palm_desk.specs.Holding.{cell_of, cell_at, owed, DriverIsReady}
 use Rattle.palm_desk.proofs.Taking.{answers_at, finishes_at}
-use Rattle.atomic_table.proofs.Lists.{one_turn}
-use Rattle.palm_base.specs.Desk.{callers}
 use Rattle.palm_desk.specs.Views.{Slot}
 use Rattle.palm_desk.specs.Views.{filled}
-use Rattle.palm_desk.specs.Words.{spell}
 
 abbrev any : Step Slot
 any = step 0 0 0 0 none

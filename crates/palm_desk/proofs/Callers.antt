@@ -1,34 +1,31 @@
 -- Each step of a caller keeps the rule.
-use Rattle.palm_base.specs.Desk.{Reached, start, next as came}
-use Rattle.palm_base.proofs.DeskLaws.{reached_lawful}
-use Rattle.std.proofs.Common.{◌≡◌, ℕ, zero, suc, ◌+◌, ◌-◌, ◌*◌, ◌%◌, ◌^◌, ◌<◌, ◌≤◌, ◌≢◌, ◌⊎◌, List, [], ◌∷◌, ◌++◌, length, get_or, set, take, sym, refl, ap, ◌∙◌, subst, arith, mod-lt, mul-le-mul_right, length-set, length-append, get_or-set_other, get_or-set_same, inl, inr, ⊎_elim, Some, None}
-use mathlib.Core.Option.{none, some, some-injective, some-ne-none}
+use Rattle.palm_base.specs.Desk.{next as came}
+use Rattle.std.proofs.Common.{◌≡◌, ℕ, suc, ◌+◌, ◌*◌, ◌%◌, ◌^◌, ◌<◌, ◌≤◌, ◌≢◌, List, [], ◌∷◌, ◌++◌, length, get_or, set, sym, refl, ap, ◌∙◌, subst, arith, mod-lt, mul-le-mul_right, length-set, length-append, get_or-set_other, get_or-set_same, ⊎_elim, None}
+use mathlib.Core.Option.{none, some, some-injective}
 use mathlib.Core.Logic.{dite}
 use native.Mathlib.Decide.{ℕ_discrete, dec_le}
 use lib.ListN.{get_elem?}
-use lib.Seq.{length-take-le, set-get_or}
-use Rattle.atomic_table.specs.Table.{State, Me, step, keeps, takes, gives, Allows, put_back, rest}
-use Rattle.atomic_table.proofs.Lists.{at_longer, at_last, set_here, set_else}
+use lib.Seq.{length-take-le}
+use Rattle.atomic_table.specs.Table.{step, keeps, gives, Allows, put_back, rest}
+use Rattle.atomic_table.proofs.Lists.{at_last, set_here, set_else}
 use Rattle.palm_base.specs.declared.call.Call.{Call}
 use Rattle.palm_base.specs.declared.call.Entry.{Entry}
-use Rattle.palm_base.specs.declared.call.Reply.{Reply}
 use Rattle.palm_base.specs.declared.desk.Terms.{Terms}
-use Rattle.palm_base.specs.declared.desk.Event.TheVariants.{Arrive, Post, Take, Answer, Finish, Collect}
-use Rattle.palm_base.specs.Arrivals.{entry, count_of, made_by, replies_for}
-use Rattle.palm_base.specs.Desk.{Machine, Lawful, put, next_entry, arrive, post, collect, May}
+use Rattle.palm_base.specs.declared.desk.Event.TheVariants.{Arrive, Post}
+use Rattle.palm_base.specs.Arrivals.{count_of, made_by, replies_for}
+use Rattle.palm_base.specs.Desk.{Machine, Lawful, put, next_entry, arrive, post}
 use Rattle.palm_desk.specs.declared.views.CallerView.{CallerView}
-use Rattle.palm_desk.specs.declared.views.Role.TheVariants.{Calling, Driving}
+use Rattle.palm_desk.specs.declared.views.Role.TheVariants.{Calling}
 use Rattle.palm_desk.specs.declared.views.View.{View}
-use Rattle.palm_desk.specs.Views.{calling, drafted, arrived, posted_one, looked, given_one, called}
-use Rattle.palm_desk.specs.Rule.{Desk, Homes, Holder, cell, state_at, words_at, Begins, Empty, Out, Posted, CellOk, CallerOk, CallerAt, DriverOk, InWindow, CellAt, AreCalls, IsRuled}
-use Rattle.palm_desk.specs.Plays.{Drafts, Arrives, Posts, Looks, Collects}
-use Rattle.palm_base.proofs.Arrivals.{at_below, some_at, length-made_by, made_by-other, made_by-own, call_at, take_more, count_of-take, count_of-take_all, length-replies_for, early, late, at_most}
-use Rattle.palm_base.proofs.DeskLaws.{at_put, at_longer_log, arrives, posts, collects}
-use Rattle.palm_desk.proofs.Cells.{cell_in, same_row, begins_else, begins_snoc, cell_else, cell_arrives, cell_posts, at_front, begins_none, word_zero, word_one, state_word, word_word, state_state, not_first, not_first_state, word_within, state_within}
+use Rattle.palm_desk.specs.Views.{calling, drafted, arrived, posted_one, called}
+use Rattle.palm_desk.specs.Rule.{Desk, Homes, Holder, cell, state_at, words_at, Begins, Empty, CellOk, CallerOk, CallerAt, InWindow, CellAt, AreCalls, IsRuled}
+use Rattle.palm_desk.specs.Plays.{Drafts, Arrives, Posts}
+use Rattle.palm_base.proofs.Arrivals.{at_below, length-made_by, made_by-other, made_by-own, count_of-take, count_of-take_all, length-replies_for, early, at_most}
+use Rattle.palm_base.proofs.DeskLaws.{at_put, at_longer_log}
+use Rattle.palm_desk.proofs.Cells.{cell_in, same_row, begins_else, begins_snoc, cell_else, cell_arrives, cell_posts, at_front, begins_none, word_zero, state_word, word_word, state_state, not_first, not_first_state, word_within, state_within}
 use Rattle.palm_desk.proofs.SeatViews.{put_here, put_else, is_calling}
 use Rattle.palm_desk.proofs.Stays.{lawful_of, each_but, caller_else, caller_arrives, driver_arrives, driver_posts, by_caller}
 use Rattle.palm_base.specs.Desk.{callers}
-use Rattle.palm_desk.specs.Views.{Slot}
 use Rattle.palm_desk.specs.Words.{spell, IsCall}
 use Rattle.palm_desk.proofs.CallWords.{one_call}
 

@@ -1,18 +1,14 @@
 -- Where the cells lie, and what stays of a cell while others move.
-use Rattle.std.proofs.Common.{◌≡◌, ℕ, zero, suc, ◌+◌, ◌-◌, ◌*◌, ◌%◌, ◌<◌, ◌≤◌, ◌≢◌, ◌⊎◌, List, [], ◌∷◌, ◌++◌, length, get_or, set, take, sym, refl, ap, ◌∙◌, subst, arith, mod-lt, mul-le-mul_right, suc-mul, lt_of_not-le, length-append, length-set, get_or-set_other, get_or-set_same, inl, inr, ⊎_elim, Some, None}
-use mathlib.Core.Option.{none, some, some-injective, some-ne-none}
+use Rattle.std.proofs.Common.{◌≡◌, ℕ, zero, suc, ◌+◌, ◌*◌, ◌%◌, ◌<◌, ◌≤◌, ◌≢◌, ◌⊎◌, List, [], ◌∷◌, ◌++◌, length, get_or, set, sym, refl, ap, ◌∙◌, subst, arith, mod-lt, mul-le-mul_right, suc-mul, length-append, get_or-set_other, get_or-set_same, inl, inr, ⊎_elim}
+use mathlib.Core.Option.{some, some-injective, some-ne-none}
 use mathlib.Core.Logic.{dite}
 use native.Mathlib.Decide.{ℕ_discrete, dec_le}
 use lib.ListN.{get_elem?}
-use Rattle.atomic_table.proofs.Lists.{at_longer, at_snoc, one_turn, set_here, set_else}
+use Rattle.atomic_table.proofs.Lists.{at_longer, one_turn}
 use Rattle.palm_base.specs.declared.call.Call.{Call}
-use Rattle.palm_base.specs.declared.call.Entry.{Entry}
 use Rattle.palm_base.specs.declared.call.Reply.{Reply}
 use Rattle.palm_base.specs.declared.desk.Terms.{Terms}
-use Rattle.palm_base.specs.Arrivals.{count_of, made_by}
-use Rattle.palm_base.specs.Desk.{Machine, put}
-use Rattle.palm_desk.specs.Views.{called}
-use Rattle.palm_desk.specs.Rule.{Homes, cell, state_at, words_at, Begins, Empty, Out, Posted, CellOk, InWindow, CellAt}
+use Rattle.palm_desk.specs.Rule.{Homes, cell, state_at, words_at, Begins, CellOk}
 use Rattle.palm_base.proofs.Arrivals.{at_below}
 use Rattle.palm_base.specs.Desk.{callers}
 use Rattle.palm_desk.specs.Words.{spell}

@@ -1,39 +1,33 @@
 -- A caller looks for its replies, collects one, and gives its slots back.
-use Rattle.palm_base.specs.Desk.{Reached, start, next as came}
-use Rattle.palm_base.proofs.DeskLaws.{reached_lawful}
-use Rattle.std.proofs.Common.{◌≡◌, ℕ, zero, suc, ◌+◌, ◌-◌, ◌*◌, ◌/◌, ◌%◌, ◌^◌, ◌<◌, ◌≤◌, ◌≢◌, ◌⊎◌, List, [], ◌∷◌, ◌++◌, length, get_or, set, take, sym, refl, ap, ◌∙◌, subst, arith, cond, eq-eqb, ne_eqb, mod-lt, mul-le-mul_right, length-set, length-append, get_or-set_other, get_or-set_same, inl, inr, ⊎_elim, Some, None}
+use Rattle.palm_base.specs.Desk.{next as came}
+use Rattle.std.proofs.Common.{◌≡◌, ℕ, zero, suc, ◌+◌, ◌-◌, ◌*◌, ◌/◌, ◌<◌, ◌≤◌, ◌≢◌, List, [], ◌∷◌, ◌++◌, length, get_or, set, take, sym, refl, ap, ◌∙◌, subst, arith, cond, eq-eqb, ne_eqb, length-set, get_or-set_other, get_or-set_same}
 use mathlib.Core.Option.{none, some, some-injective, some-ne-none}
 use mathlib.Core.Logic.{dite}
-use native.Mathlib.Decide.{ℕ_discrete, dec_le}
+use native.Mathlib.Decide.{ℕ_discrete}
 use lib.ListN.{get_elem?}
 use native.Mathlib.Nat.{add-mod_right}
-use lib.Seq.{length-take-le, set-get_or}
-use Rattle.atomic_table.specs.Table.{State, Me, step, keeps, takes, gives, Allows, put_back, rest}
-use Rattle.atomic_table.proofs.Lists.{at_longer, at_last, set_here, set_else}
+use Rattle.atomic_table.specs.Table.{step, keeps, takes, Allows, rest}
+use Rattle.atomic_table.proofs.Lists.{set_here, set_else}
 use Rattle.palm_base.specs.declared.call.Call.{Call}
 use Rattle.palm_base.specs.declared.call.Entry.{Entry}
 use Rattle.palm_base.specs.declared.call.Reply.{Reply}
 use Rattle.palm_base.specs.declared.desk.Terms.{Terms}
-use Rattle.palm_base.specs.declared.desk.Event.TheVariants.{Arrive, Post, Take, Answer, Finish, Collect}
-use Rattle.palm_base.specs.Arrivals.{entry, count_of, made_by, replies_for}
-use Rattle.palm_base.specs.Desk.{Machine, Lawful, put, next_entry, arrive, post, collect, May}
+use Rattle.palm_base.specs.declared.desk.Event.TheVariants.{Collect}
+use Rattle.palm_base.specs.Arrivals.{count_of, made_by, replies_for}
+use Rattle.palm_base.specs.Desk.{collect}
 use Rattle.palm_desk.specs.declared.views.CallerView.{CallerView}
-use Rattle.palm_desk.specs.declared.views.Role.TheVariants.{Calling, Driving}
-use Rattle.palm_desk.specs.declared.views.View.{View}
-use Rattle.palm_desk.specs.Views.{calling, drafted, arrived, posted_one, looked, given_one, called}
-use Rattle.palm_desk.specs.Rule.{Desk, Homes, Holder, cell, state_at, words_at, Begins, Empty, Out, Posted, CellOk, CallerOk, CallerAt, DriverOk, InWindow, CellAt, IsRuled}
-use Rattle.palm_desk.specs.Plays.{Drafts, Arrives, Posts, Looks, Collects}
-use Rattle.palm_base.proofs.Arrivals.{at_below, some_at, length-made_by, made_by-other, made_by-own, call_at, take_more, count_of-take, count_of-take_all, length-replies_for, early, late, at_most}
-use Rattle.palm_base.proofs.DeskLaws.{at_put, arrives, posts, collects}
-use Rattle.palm_desk.proofs.Cells.{cell_in, one_call, same_row, begins_else, begins_snoc, cell_else, cell_arrives, cell_posts, at_front, begins_none, word_zero, word_one, state_word, word_word, state_state, not_first, not_first_state, word_within, state_within}
+use Rattle.palm_desk.specs.declared.views.Role.TheVariants.{Calling}
+use Rattle.palm_desk.specs.Views.{calling, looked, given_one}
+use Rattle.palm_desk.specs.Rule.{Homes, Holder, cell, state_at, words_at, CellOk, CallerOk, InWindow, CellAt, IsRuled}
+use Rattle.palm_desk.specs.Plays.{Looks, Collects}
+use Rattle.palm_base.proofs.Arrivals.{some_at, call_at, count_of-take, early}
+use Rattle.palm_desk.proofs.Cells.{cell_in, cell_else, word_one, state_word, state_state, not_first_state, state_within}
 use Rattle.palm_desk.proofs.SeatViews.{put_here, put_else, is_calling}
-use Rattle.palm_desk.proofs.Stays.{lawful_of, each_but, caller_else, caller_arrives, driver_arrives, driver_posts, by_caller}
+use Rattle.palm_desk.proofs.Stays.{lawful_of, each_but, caller_else, by_caller}
 use Rattle.palm_base.proofs.Arrivals.{take_one}
-use Rattle.palm_desk.proofs.Callers.{Own, own, backs}
+use Rattle.palm_desk.proofs.Callers.{own, backs}
 use Rattle.palm_base.specs.Desk.{callers}
-use Rattle.palm_desk.specs.Views.{Slot}
 use Rattle.palm_desk.specs.Views.{filled}
-use Rattle.palm_desk.specs.Words.{spell}
 
 pub looks_at : (k : Terms) (slots id : ℕ) (me : Holder) → me.0.role ≡ Calling → Allows (IsRuled k) slots id me 1 (λ n. n) (Looks (step slots 1 0 0 none) me)
 looks_at k slots id me is s r _ there small =
@@ -69,7 +63,7 @@ looks_at k slots id me is s r _ there small =
     )
 
 -- the answer to the call j of c
-answer_at : (c n : ℕ) (a : List Entry) (rs : List Reply) (j i : ℕ) (call : Call) (r : Reply) → get_elem? (made_by c n a) j ≡ some (n + i, call) → get_elem? rs i ≡ some r → get_elem? (replies_for c n a rs) j ≡ some (n + i, r)
+pub answer_at : (c n : ℕ) (a : List Entry) (rs : List Reply) (j i : ℕ) (call : Call) (r : Reply) → get_elem? (made_by c n a) j ≡ some (n + i, call) → get_elem? rs i ≡ some r → get_elem? (replies_for c n a rs) j ≡ some (n + i, r)
 answer_at c n [] rs j i call r at at' = absurd (some-ne-none (n + i, call) (sym at))
 answer_at c n (e ∷ a) [] j i call r at at' = absurd (some-ne-none r (sym at'))
 answer_at c n (e ∷ a) (y ∷ rs) j i call r at at' = dite (ℕ_discrete e.caller c)

@@ -1,53 +1,39 @@
 -- A desk is opened, seats are made, and at the end slots go home and seats are joined.
-use Rattle.palm_base.specs.Desk.{Reached, start, next as came}
-use Rattle.palm_base.proofs.DeskLaws.{reached_lawful}
-use Rattle.std.proofs.Common.{◌≡◌, ℕ, zero, suc, ◌+◌, ◌-◌, ◌*◌, ◌/◌, ◌%◌, ◌^◌, ◌<◌, ◌≤◌, ◌≢◌, ◌⊎◌, List, [], ◌∷◌, ◌++◌, length, get_or, set, take, sym, refl, ap, ◌∙◌, subst, arith, cond, eq-eqb, ne_eqb, mod-lt, mul-le-mul_right, length-set, length-append, get_or-set_other, get_or-set_same, inl, inr, ⊎_elim, Some, None}
+use Rattle.palm_base.specs.Desk.{start}
+use Rattle.std.proofs.Common.{◌≡◌, ℕ, zero, suc, ◌+◌, ◌*◌, ◌<◌, ◌≤◌, ◌≢◌, ◌⊎◌, List, [], ◌∷◌, ◌++◌, length, get_or, set, sym, refl, ap, ◌∙◌, subst, arith, length-set, inl, inr, ⊎_elim, None}
 use mathlib.Core.Option.{none, some, some-injective, some-ne-none}
 use mathlib.Core.Logic.{dite}
-use native.Mathlib.Decide.{ℕ_discrete, dec_le}
+use native.Mathlib.Decide.{ℕ_discrete}
 use lib.ListN.{get_elem?, length-replicate}
-use native.Mathlib.Nat.{add-mod_right}
-use lib.Seq.{length-take-le, set-get_or}
-use Rattle.atomic_table.specs.Table.{State, Me, step, keeps, takes, gives, Allows, put_back, rest}
+use lib.Seq.{set-get_or}
+use Rattle.atomic_table.specs.Table.{step, gives, Allows, put_back, rest}
 use Rattle.atomic_table.proofs.Lists.{at_longer, at_last, set_here, set_else}
-use Rattle.palm_base.specs.declared.call.Call.{Call}
-use Rattle.palm_base.specs.declared.call.Entry.{Entry}
-use Rattle.palm_base.specs.declared.call.Reply.{Reply}
 use Rattle.palm_base.specs.declared.desk.Terms.{Terms}
-use Rattle.palm_base.specs.declared.desk.Event.TheVariants.{Arrive, Post, Take, Answer, Finish, Collect}
-use Rattle.palm_base.specs.Arrivals.{entry, count_of, made_by, replies_for}
-use Rattle.palm_base.specs.Desk.{Machine, Lawful, put, next_entry, arrive, post, collect, May}
+use Rattle.palm_base.specs.Desk.{Machine, put}
 use Rattle.palm_desk.specs.declared.views.CallerView.{CallerView}
 use Rattle.palm_desk.specs.declared.views.Role.TheVariants.{Calling, Driving}
 use Rattle.palm_desk.specs.declared.views.View.{View}
-use Rattle.palm_desk.specs.Views.{calling, drafted, arrived, posted_one, looked, given_one, called}
-use Rattle.palm_desk.specs.Rule.{Desk, Homes, Holder, cell, state_at, words_at, Begins, Empty, Out, Posted, CellOk, CallerOk, CallerAt, DriverOk, InWindow, CellAt, IsRuled}
-use Rattle.palm_desk.specs.Plays.{Drafts, Arrives, Posts, Looks, Collects}
-use Rattle.palm_base.proofs.Arrivals.{at_below, some_at, length-made_by, made_by-other, made_by-own, call_at, take_more, count_of-take, count_of-take_all, length-replies_for, early, late, at_most}
-use Rattle.palm_base.proofs.DeskLaws.{at_put, arrives, posts, collects}
-use Rattle.palm_desk.proofs.Cells.{cell_in, one_call, same_row, begins_else, begins_snoc, cell_else, cell_arrives, cell_posts, at_front, begins_none, word_zero, word_one, state_word, word_word, state_state, not_first, not_first_state, word_within, state_within}
+use Rattle.palm_desk.specs.Views.{calling}
+use Rattle.palm_desk.specs.Rule.{Homes, Holder, cell, state_at, words_at, CallerAt, DriverOk, InWindow, CellAt, IsRuled}
+use Rattle.palm_base.proofs.Arrivals.{at_below, count_of-take}
+use Rattle.palm_base.proofs.DeskLaws.{at_put}
+use Rattle.palm_desk.proofs.Cells.{cell_in, begins_none}
 use Rattle.palm_desk.proofs.SeatViews.{put_here, put_else, is_calling}
-use Rattle.palm_desk.proofs.Stays.{lawful_of, each_but, caller_else, caller_arrives, driver_arrives, driver_posts, by_caller}
-use Rattle.palm_base.proofs.Arrivals.{take_one}
-use Rattle.palm_desk.proofs.Callers.{Own, own, backs}
-use Rattle.std.proofs.Common.{slice_index, replicate, All, Contains, map, max}
+use Rattle.palm_desk.proofs.Stays.{lawful_of, each_but}
+use Rattle.palm_desk.proofs.Callers.{own}
+use Rattle.std.proofs.Common.{slice_index, replicate, Contains, map, max}
 use Rattle.std.proofs.lemmas.List.Elements.{Contains-append_left, Contains-append_right}
 use Rattle.atomic_table.specs.Table.{Splits, Joins, opening}
 use Rattle.palm_desk.specs.declared.views.DriverView.{DriverView}
 use Rattle.palm_desk.specs.declared.views.Role.{Role}
 use Rattle.palm_desk.specs.declared.views.Role.TheVariants.{Spent}
 use Rattle.palm_base.specs.Desk.{opened}
-use Rattle.palm_desk.specs.Views.{driving, fresh, starts, maker, newcomer, seated, spent, closed_by, settled}
-use Rattle.palm_desk.specs.Rule.{Bounded, Knows, Seated}
+use Rattle.palm_desk.specs.Views.{fresh, starts, maker, newcomer, seated, spent, closed_by, settled}
+use Rattle.palm_desk.specs.Rule.{Bounded, Knows}
 use Rattle.palm_desk.specs.Plays.{Settles}
-use Rattle.palm_base.proofs.DeskLaws.{open_lawful}
-use Rattle.palm_desk.proofs.SeatViews.{calls_on, is_driving, not_driver}
+use Rattle.palm_desk.proofs.SeatViews.{calls_on, is_driving}
 use Rattle.atomic_table.proofs.Lists.{at_set}
-use Rattle.palm_desk.proofs.Scanning.{Drive, drive}
-use mathlib.Core.Path.{Path}
 use Rattle.palm_base.specs.Desk.{callers}
-use Rattle.palm_desk.specs.Views.{Slot}
-use Rattle.palm_desk.specs.Words.{spell}
 
 -- a load gives home the slot of the first idle call whose slot is out
 pub settles_at : (k : Terms) (slots id : ℕ) (me : Holder) (j : ℕ) → me.0.role ≡ Calling → me.0.calls.up ≡ length me.0.calls.made → j ≡ max me.0.calls.back me.0.calls.up → j < length me.0.calls.collected + me.0.terms.window

@@ -12,3 +12,10 @@ pub mod SeatViews
 pub mod Stays
 pub mod Submitting
 pub mod Taking
+pub mod Finals
+pub mod GatherSteps
+pub mod FirstLefts
+pub mod Gathering
+pub mod Settling
+pub mod Closes
+pub mod Closed

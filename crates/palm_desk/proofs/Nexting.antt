@@ -1,42 +1,28 @@
 -- The steps by which the driver takes a call, one after the other.
-use Rattle.std.proofs.Common.{◌≡◌, ℕ, zero, suc, ◌+◌, ◌-◌, ◌*◌, ◌/◌, ◌%◌, ◌^◌, ◌<◌, ◌≤◌, ◌≢◌, ◌⊎◌, List, [], ◌∷◌, ◌++◌, length, get_or, slice_index, set, take, sym, refl, ap, ◌∙◌, subst, arith, cond, eq-eqb, ne_eqb, mod-lt, mul-le-mul_right, length-set, length-append, get_or-set_other, get_or-set_same, inl, inr, ⊎_elim, Some, None}
-use mathlib.Core.Option.{none, some, some-injective, some-ne-none}
+use Rattle.std.proofs.Common.{◌≡◌, ℕ, zero, suc, ◌+◌, ◌-◌, ◌*◌, ◌/◌, ◌%◌, ◌^◌, ◌<◌, ◌≤◌, ◌≢◌, List, [], ◌∷◌, ◌++◌, length, get_or, slice_index, set, take, sym, refl, ap, ◌∙◌, subst, arith, cond, eq-eqb, ne_eqb, mod-lt, length-set, length-append, get_or-set_other, get_or-set_same, None}
+use mathlib.Core.Option.{none}
 use mathlib.Core.Logic.{dite}
-use native.Mathlib.Decide.{ℕ_discrete, dec_le}
-use lib.ListN.{get_elem?}
-use native.Mathlib.Nat.{add-mod_right}
-use lib.Seq.{length-take-le, set-get_or, take-take}
-use Rattle.std.proofs.lemmas.List.{append-nil}
-use Rattle.atomic_table.specs.Table.{State, Me, step, keeps, takes, gives, Allows, put_back, rest}
-use Rattle.atomic_table.proofs.Lists.{at_longer, at_last, set_here, set_else}
+use native.Mathlib.Decide.{ℕ_discrete}
+use Rattle.atomic_table.specs.Table.{step, Allows}
+use Rattle.atomic_table.proofs.Lists.{at_longer, at_last}
 use Rattle.palm_base.specs.declared.call.Call.{Call}
 use Rattle.palm_base.specs.declared.call.Entry.{Entry}
-use Rattle.palm_base.specs.declared.call.Reply.{Reply}
 use Rattle.palm_base.specs.declared.desk.Terms.{Terms}
-use Rattle.palm_base.specs.declared.desk.Event.TheVariants.{Arrive, Post, Take, Answer, Finish, Collect}
-use Rattle.palm_base.specs.Arrivals.{entry, count_of, made_by, replies_for}
-use Rattle.palm_base.specs.Desk.{Machine, Lawful, put, next_entry, arrive, post, collect, May}
-use Rattle.palm_desk.specs.declared.views.CallerView.{CallerView}
-use Rattle.palm_desk.specs.declared.views.Role.TheVariants.{Calling, Driving}
+use Rattle.palm_base.specs.Arrivals.{entry, count_of}
+use Rattle.palm_desk.specs.declared.views.Role.TheVariants.{Driving}
 use Rattle.palm_desk.specs.declared.views.View.{View}
-use Rattle.palm_desk.specs.Views.{calling, drafted, arrived, posted_one, looked, given_one, called}
-use Rattle.palm_desk.specs.Rule.{Desk, Homes, Holder, cell, state_at, words_at, Begins, Empty, Out, Posted, CellOk, CallerOk, CallerAt, DriverOk, InWindow, CellAt, IsRuled}
-use Rattle.palm_base.proofs.Arrivals.{at_below, some_at, length-made_by, made_by-other, made_by-own, call_at, take_more, count_of-take, count_of-take_all, length-replies_for, early, late, at_most}
-use Rattle.palm_base.proofs.DeskLaws.{at_put, arrives, posts, collects}
-use Rattle.palm_base.proofs.Arrivals.{take_one}
-use Rattle.palm_desk.specs.declared.views.DriverView.{DriverView}
-use Rattle.palm_base.specs.Desk.{take_next, reply, finish}
-use Rattle.palm_desk.specs.Views.{driving, scanned, read, took, replied, finished, found_if}
-use Rattle.palm_desk.specs.Plays.{Starts, Scans, Reads, Takes, Answers, Finishes, front_reply}
-use Rattle.palm_base.proofs.Arrivals.{at_call, one_number, count_of-take_one, one_same}
-use Rattle.palm_base.proofs.DeskLaws.{takes_next, replies, finishes}
+use Rattle.palm_desk.specs.Views.{called}
+use Rattle.palm_desk.specs.Rule.{Holder, cell, state_at, IsRuled}
+use Rattle.palm_base.proofs.Arrivals.{some_at, take_more}
+use Rattle.palm_desk.specs.Views.{driving, scanned, read, took, found_if}
+use Rattle.palm_desk.specs.Plays.{Reads, Takes}
+use Rattle.palm_base.proofs.Arrivals.{one_same}
 use mathlib.Core.Path.{Path}
-use Rattle.std.proofs.Common.{drop, length-drop}
 use Rattle.std.proofs.Common.{slice_set}
 use Rattle.atomic_table.specs.Table.{Step}
 use Rattle.std.proofs.lemmas.List.{get_or_default}
 use Rattle.palm_desk.specs.Holding.{cell_of, cell_at, owed, DriverIsReady}
-use Rattle.palm_desk.proofs.Scanning.{starts_at, scans_at, reads_at}
+use Rattle.palm_desk.proofs.Scanning.{reads_at}
 use Rattle.palm_desk.proofs.Taking.{takes_at}
 use Rattle.palm_desk.proofs.Cells.{in_rows}
 use Rattle.palm_base.proofs.Arrivals.{count_of-snoc, one_other}
@@ -47,7 +33,7 @@ use Rattle.atomic_table.proofs.Lists.{one_turn}
 use Rattle.atomic_table.specs.Table.{turned}
 use Rattle.palm_desk.specs.Scans.{next_number, scan_for, found_with, FoundAt, found_none, NoneCalled, FoundNowhere, TakesOne}
 use Rattle.palm_desk.specs.DriverCalls.{TakesNext, FindsNone}
-use Rattle.palm_desk.specs.Seats.{DriverState, driver_state}
+use Rattle.palm_desk.specs.Seats.{driver_state}
 use Rattle.atomic_table.specs.Seated.{TableId}
 use Rattle.palm_base.specs.Desk.{callers}
 use Rattle.palm_desk.specs.Views.{Slot}

@@ -1,51 +1,21 @@
 -- A new desk meets its rule, and its seats are made one after the other.
-use Rattle.std.proofs.Common.{◌≡◌, ℕ, zero, suc, ◌+◌, ◌-◌, ◌*◌, ◌/◌, ◌%◌, ◌^◌, ◌<◌, ◌≤◌, ◌≢◌, ◌⊎◌, List, [], ◌∷◌, ◌++◌, length, get_or, set, take, sym, refl, ap, ◌∙◌, subst, arith, cond, eq-eqb, ne_eqb, mod-lt, mul-le-mul_right, length-set, length-append, get_or-set_other, get_or-set_same, inl, inr, ⊎_elim, Some, None}
-use mathlib.Core.Option.{none, some, some-injective, some-ne-none}
+use Rattle.std.proofs.Common.{◌≡◌, ℕ, zero, suc, ◌+◌, ◌*◌, ◌^◌, ◌<◌, ◌≤◌, List, [], ◌∷◌, ◌++◌, length, sym, refl, ap, ◌∙◌, subst, arith, length-append, Some, None}
 use mathlib.Core.Logic.{dite}
-use native.Mathlib.Decide.{ℕ_discrete, dec_le}
-use lib.ListN.{get_elem?, length-replicate}
-use native.Mathlib.Nat.{add-mod_right}
-use lib.Seq.{length-take-le, set-get_or}
-use Rattle.atomic_table.specs.Table.{State, Me, step, keeps, takes, gives, Allows, put_back, rest}
-use Rattle.atomic_table.proofs.Lists.{at_longer, at_last, set_here, set_else}
-use Rattle.palm_base.specs.declared.call.Call.{Call}
-use Rattle.palm_base.specs.declared.call.Entry.{Entry}
-use Rattle.palm_base.specs.declared.call.Reply.{Reply}
+use native.Mathlib.Decide.{ℕ_discrete}
+use lib.ListN.{length-replicate}
 use Rattle.palm_base.specs.declared.desk.Terms.{Terms}
-use Rattle.palm_base.specs.declared.desk.Event.TheVariants.{Arrive, Post, Take, Answer, Finish, Collect}
-use Rattle.palm_base.specs.Arrivals.{entry, count_of, made_by, replies_for}
-use Rattle.palm_base.specs.Desk.{Machine, Lawful, put, next_entry, arrive, post, collect, May}
-use Rattle.palm_desk.specs.declared.views.CallerView.{CallerView}
-use Rattle.palm_desk.specs.declared.views.Role.TheVariants.{Calling, Driving}
+use Rattle.palm_desk.specs.declared.views.Role.TheVariants.{Driving}
 use Rattle.palm_desk.specs.declared.views.View.{View}
-use Rattle.palm_desk.specs.Views.{calling, drafted, arrived, posted_one, looked, given_one, called}
-use Rattle.palm_desk.specs.Rule.{Desk, Homes, Holder, cell, state_at, words_at, Begins, Empty, Out, Posted, CellOk, CallerOk, CallerAt, DriverOk, InWindow, CellAt, IsRuled}
-use Rattle.palm_base.proofs.Arrivals.{at_below, some_at, length-made_by, made_by-other, made_by-own, call_at, take_more, count_of-take, count_of-take_all, length-replies_for, early, late, at_most}
-use Rattle.palm_base.proofs.DeskLaws.{at_put, arrives, posts, collects}
-use Rattle.palm_base.proofs.Arrivals.{take_one}
-use Rattle.std.proofs.Common.{slice_index, replicate, All, Contains, map, max}
+use Rattle.palm_desk.specs.Rule.{Holder, IsRuled}
+use Rattle.std.proofs.Common.{slice_index, replicate}
 use Rattle.std.specs.Prelude.{slice_get}
-use Rattle.std.proofs.lemmas.List.Elements.{Contains-append_left, Contains-append_right}
-use Rattle.atomic_table.specs.Table.{Splits, Joins, opening}
-use Rattle.palm_desk.specs.declared.views.DriverView.{DriverView}
-use Rattle.palm_desk.specs.declared.views.Role.{Role}
-use Rattle.palm_desk.specs.declared.views.Role.TheVariants.{Spent}
-use Rattle.palm_base.specs.Desk.{opened}
-use Rattle.palm_desk.specs.Views.{driving, fresh, starts, maker, newcomer, seated, spent, closed_by, settled}
-use Rattle.palm_desk.specs.Rule.{Bounded, Knows, Seated}
-use Rattle.palm_base.proofs.DeskLaws.{open_lawful}
-use Rattle.atomic_table.proofs.Lists.{at_set}
-use mathlib.Core.Path.{Path}
+use Rattle.atomic_table.specs.Table.{opening}
+use Rattle.palm_desk.specs.Views.{fresh, starts, maker, newcomer}
 use Rattle.atomic_table.specs.Seated.{TableId}
 use Rattle.palm_desk.specs.Seats.{CallerState, caller_state}
-use Rattle.palm_desk.specs.Holding.{cell_of, cell_at, owed, DriverIsReady}
+use Rattle.palm_desk.specs.Holding.{DriverIsReady}
 use Rattle.palm_desk.specs.Opened.{terms_with, new_caller, AreNewCallers}
 use Rattle.palm_desk.proofs.Ends.{opens_at}
-use Rattle.atomic_table.specs.declared.shared.Seat.{Seat}
-use Rattle.atomic_table.proofs.Lists.{at_snoc}
-use Rattle.palm_base.specs.Desk.{callers}
-use Rattle.palm_desk.specs.Views.{Slot}
-use Rattle.palm_desk.specs.Words.{spell}
 
 zeros_at : (n i : ℕ) → slice_index (replicate n 0) i ≡ 0
 zeros_at zero i = refl
@@ -82,18 +52,18 @@ at_before [] a b i at = absurd (none_is_some at)
 at_before (x ∷ l) a b zero at = at
 at_before (x ∷ l) a b (suc i) at = at_before l a b i at
 
-pub no_callers : (desk : TableId) (k : Terms) → AreNewCallers desk k 0 []
-no_callers desk k = record { many = refl; each = λ c lt. absurd (omega arith) }
+pub no_callers : (id : TableId) (k : Terms) → AreNewCallers (record { table = id; terms = k }) 0 []
+no_callers id k = record { many = refl; each = λ c lt. absurd (omega arith) }
 
 -- one more seat is made
-pub newcomers : (desk : TableId) (k : Terms) (n : ℕ) (seats : List CallerState) (s : CallerState) → s ≡ caller_state desk (newcomer (made k n)) → AreNewCallers desk k n seats → AreNewCallers desk k (n + 1) (seats ++ s ∷ [])
-newcomers desk k n seats s is all =
+pub newcomers : (id : TableId) (k : Terms) (n : ℕ) (seats : List CallerState) (s : CallerState) → s ≡ caller_state id (newcomer (made k n)) → AreNewCallers (record { table = id; terms = k }) n seats → AreNewCallers (record { table = id; terms = k }) (n + 1) (seats ++ s ∷ [])
+newcomers id k n seats s is all =
     let long = length-append seats (s ∷ []) in let many = all.many in
     record {
       many = omega arith;
       each = λ c lt. dite (ℕ_discrete c n)
-          (λ e. at_push seats s c (e ∙ sym many) ∙ ap (λ z. Some z) (is ∙ ap (new_caller desk k) (sym e)))
-          (λ ne. at_before seats s (new_caller desk k c) c (all.each c (omega arith)));
+          (λ e. at_push seats s c (e ∙ sym many) ∙ ap (λ z. Some z) (is ∙ ap (new_caller (record { table = id; terms = k })) (sym e)))
+          (λ ne. at_before seats s (new_caller (record { table = id; terms = k }) c) c (all.each c (omega arith)));
     }
 
 pub driver_new : (words : ℕ) (me : Holder) (base window quota : ℕ) (firsts counts order : List ℕ) → me.0 ≡ made (terms_with base firsts window quota) (length firsts) → me.1 ≡ [] → words ≡ 4 * (length firsts * window) + 2

@@ -1,47 +1,33 @@
 -- The steps of a poll, one after the other.
-use Rattle.std.proofs.Common.{◌≡◌, ℕ, zero, suc, ◌+◌, ◌-◌, ◌*◌, ◌/◌, ◌%◌, ◌^◌, ◌<◌, ◌≤◌, ◌≢◌, ◌⊎◌, List, [], ◌∷◌, ◌++◌, length, get_or, set, take, sym, refl, ap, ◌∙◌, subst, arith, cond, eq-eqb, ne_eqb, mod-lt, mul-le-mul_right, length-set, length-append, get_or-set_other, get_or-set_same, inl, inr, ⊎_elim, Some, None}
+use Rattle.std.proofs.Common.{◌≡◌, ℕ, zero, suc, ◌+◌, ◌-◌, ◌*◌, ◌/◌, ◌%◌, ◌<◌, ◌≤◌, List, [], ◌∷◌, ◌++◌, length, get_or, sym, ap, ◌∙◌, subst, arith, mod-lt, length-append, Some, None}
 use mathlib.Core.Option.{none, some, some-injective, some-ne-none}
-use mathlib.Core.Logic.{dite}
-use native.Mathlib.Decide.{ℕ_discrete, dec_le}
 use lib.ListN.{get_elem?}
 use native.Mathlib.Nat.{add-mod_right}
-use lib.Seq.{length-take-le, set-get_or}
-use Rattle.atomic_table.specs.Table.{State, Me, Step, step, keeps, takes, gives, Allows, put_back, rest}
+use Rattle.atomic_table.specs.Table.{step, Allows, rest}
 use Rattle.palm_base.specs.declared.call.Call.{Call}
-use Rattle.palm_base.specs.declared.call.Entry.{Entry}
 use Rattle.palm_base.specs.declared.call.Reply.{Reply}
 use Rattle.palm_base.specs.declared.desk.Terms.{Terms}
-use Rattle.palm_base.specs.declared.desk.Event.TheVariants.{Arrive, Post, Take, Answer, Finish, Collect}
-use Rattle.palm_base.specs.Arrivals.{entry, count_of, made_by, replies_for}
-use Rattle.palm_base.specs.Desk.{Machine, Lawful, put, next_entry, arrive, post, collect, May}
-use Rattle.palm_desk.specs.declared.views.CallerView.{CallerView}
-use Rattle.palm_desk.specs.declared.views.Role.TheVariants.{Calling, Driving}
 use Rattle.palm_desk.specs.declared.views.View.{View}
-use Rattle.palm_desk.specs.Views.{calling, drafted, arrived, posted_one, looked, given_one, called}
-use Rattle.palm_desk.specs.Rule.{Desk, Homes, Holder, cell, state_at, words_at, Begins, Empty, Out, Posted, CellOk, CallerOk, CallerAt, DriverOk, InWindow, CellAt, IsRuled}
-use Rattle.palm_desk.specs.Plays.{Drafts, Arrives, Posts, Looks, Collects}
-use Rattle.palm_desk.proofs.SeatViews.{put_here, put_else, is_calling}
-use Rattle.std.proofs.Common.{max, slice_index, slice_set}
+use Rattle.palm_desk.specs.Views.{calling, looked, given_one}
+use Rattle.palm_desk.specs.Rule.{Holder, cell, IsRuled}
+use Rattle.palm_desk.specs.Plays.{Looks, Collects}
+use Rattle.std.proofs.Common.{max, slice_index}
 use Rattle.palm_desk.specs.Holding.{held, CallerIsReady}
-use Rattle.atomic_table.proofs.Lists.{at_last, one_turn}
-use Rattle.palm_base.proofs.Arrivals.{at_below}
-use Rattle.palm_desk.proofs.Cells.{at_front, in_rows}
+use Rattle.palm_desk.proofs.Cells.{in_rows}
 use mathlib.Core.Path.{Path}
 use Rattle.atomic_table.specs.Table.{turned}
 use Rattle.palm_desk.proofs.Collecting.{looks_at, collects_at}
 use Rattle.atomic_table.specs.Seated.{TableId}
 use Rattle.palm_base.specs.declared.call.Reply.{Reply}
 use Rattle.palm_desk.specs.CallerCalls.{Polled, after_look, after_reply}
-use Rattle.palm_desk.specs.CallerCalls as caller
 use Rattle.palm_desk.specs.Seats.{CallerState, caller_state}
-use Rattle.palm_desk.specs.declared.caller.Poll.TheVariants.{Nothing, Pending, Ready}
+use Rattle.palm_desk.specs.declared.caller.Poll.TheVariants.{Pending, Ready}
 use Rattle.std.specs.Prelude.{slice_get}
 use Rattle.palm_base.proofs.Arrivals.{some_at}
 use Rattle.std.proofs.lemmas.List.{get_or_default}
 use Rattle.palm_base.specs.Desk.{callers}
 use Rattle.palm_desk.specs.Views.{Slot}
 use Rattle.palm_desk.specs.Views.{filled}
-use Rattle.palm_desk.specs.Words.{spell}
 
 held-snoc : (k : Terms) (c j n : ℕ) → held k c j (n + 1) ≡ held k c j n ++ (cell k c (j + n), None) ∷ []
 held-snoc k c j zero = ap (λ i. (cell k c i, None) ∷ []) (let g : j ≡ j + 0 = omega arith in g)
@@ -51,7 +37,7 @@ held-snoc k c j (suc n) = ap (held k c j) (let g : suc n + 1 ≡ suc (n + 1) = o
 abbrev pub IsOldest : View → ℕ → Call → Type 0
 IsOldest v n call = get_elem? v.calls.made (length v.calls.collected) ≡ some (n, call)
 
-at_place : {A : Type 0} (l : List A) (i : ℕ) (a : A) → get_elem? l i ≡ some a → slice_get l i ≡ Some a
+pub at_place : {A : Type 0} (l : List A) (i : ℕ) (a : A) → get_elem? l i ≡ some a → slice_get l i ≡ Some a
 at_place [] i a at = absurd (some-ne-none a (sym at))
 at_place (x ∷ l) zero a at = ap (λ y. Some y) (some-injective x a at)
 at_place (x ∷ l) (suc i) a at = at_place l i a at

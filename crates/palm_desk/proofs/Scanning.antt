@@ -1,43 +1,30 @@
 -- Each step of the driver keeps the rule.
-use Rattle.std.proofs.Common.{◌≡◌, ℕ, zero, suc, ◌+◌, ◌-◌, ◌*◌, ◌/◌, ◌%◌, ◌^◌, ◌<◌, ◌≤◌, ◌≢◌, ◌⊎◌, List, [], ◌∷◌, ◌++◌, length, get_or, set, take, sym, refl, ap, ◌∙◌, subst, arith, cond, eq-eqb, ne_eqb, mod-lt, mul-le-mul_right, length-set, length-append, get_or-set_other, get_or-set_same, inl, inr, ⊎_elim, Some, None}
-use mathlib.Core.Option.{none, some, some-injective, some-ne-none}
+use Rattle.std.proofs.Common.{◌≡◌, ℕ, zero, suc, ◌+◌, ◌*◌, ◌<◌, ◌≤◌, List, [], ◌∷◌, ◌++◌, length, get_or, set, take, sym, refl, ap, ◌∙◌, subst, arith, cond, eq-eqb, ne_eqb}
+use mathlib.Core.Option.{none, some}
 use mathlib.Core.Logic.{dite}
 use native.Mathlib.Decide.{ℕ_discrete, dec_le}
 use lib.ListN.{get_elem?}
 use native.Mathlib.Nat.{add-mod_right}
 use lib.Seq.{length-take-le, set-get_or}
 use Rattle.std.proofs.lemmas.List.{append-nil}
-use Rattle.atomic_table.specs.Table.{State, Me, step, keeps, takes, gives, Allows, put_back, rest}
-use Rattle.atomic_table.proofs.Lists.{at_longer, at_last, set_here, set_else}
+use Rattle.atomic_table.specs.Table.{step, keeps, Allows}
 use Rattle.palm_base.specs.declared.call.Call.{Call}
 use Rattle.palm_base.specs.declared.call.Entry.{Entry}
-use Rattle.palm_base.specs.declared.call.Reply.{Reply}
 use Rattle.palm_base.specs.declared.desk.Terms.{Terms}
-use Rattle.palm_base.specs.declared.desk.Event.TheVariants.{Arrive, Post, Take, Answer, Finish, Collect}
-use Rattle.palm_base.specs.Arrivals.{entry, count_of, made_by, replies_for}
-use Rattle.palm_base.specs.Desk.{Machine, Lawful, put, next_entry, arrive, post, collect, May}
-use Rattle.palm_desk.specs.declared.views.CallerView.{CallerView}
-use Rattle.palm_desk.specs.declared.views.Role.TheVariants.{Calling, Driving}
+use Rattle.palm_base.specs.Arrivals.{count_of, made_by}
+use Rattle.palm_base.specs.Desk.{Machine, Lawful}
+use Rattle.palm_desk.specs.declared.views.Role.TheVariants.{Driving}
 use Rattle.palm_desk.specs.declared.views.View.{View}
-use Rattle.palm_desk.specs.Views.{calling, drafted, arrived, posted_one, looked, given_one, called}
-use Rattle.palm_desk.specs.Rule.{Desk, Homes, Holder, cell, state_at, words_at, Begins, Empty, Out, Posted, CellOk, CallerOk, CallerAt, DriverOk, InWindow, CellAt, IsRuled}
-use Rattle.palm_base.proofs.Arrivals.{at_below, some_at, length-made_by, made_by-other, made_by-own, call_at, take_more, count_of-take, count_of-take_all, length-replies_for, early, late, at_most}
-use Rattle.palm_base.proofs.DeskLaws.{at_put, arrives, posts, collects}
-use Rattle.palm_desk.proofs.Cells.{cell_in, one_call, same_row, begins_else, begins_snoc, cell_else, cell_arrives, cell_posts, at_front, begins_none, word_zero, word_one, state_word, word_word, state_state, not_first, not_first_state, word_within, state_within}
-use Rattle.palm_desk.proofs.SeatViews.{put_here, put_else, is_calling}
-use Rattle.palm_base.proofs.Arrivals.{take_one}
+use Rattle.palm_desk.specs.Views.{called}
+use Rattle.palm_desk.specs.Rule.{Desk, Holder, cell, state_at, words_at, Posted, DriverOk, InWindow, IsRuled}
+use Rattle.palm_base.proofs.Arrivals.{some_at, length-made_by, call_at, count_of-take, early, late}
 use Rattle.palm_desk.specs.declared.views.DriverView.{DriverView}
-use Rattle.palm_base.specs.Desk.{take_next, reply, finish}
-use Rattle.palm_desk.specs.Views.{driving, scanned, read, took, replied, finished, found_if}
-use Rattle.palm_desk.specs.Plays.{Starts, Scans, Reads, Takes, Answers, Finishes, front_reply}
-use Rattle.palm_base.proofs.Arrivals.{at_call, one_number, count_of-take_one}
-use Rattle.palm_base.proofs.DeskLaws.{takes_next, replies, finishes}
-use Rattle.palm_desk.proofs.Cells.{cell_taken, cell_answered}
+use Rattle.palm_desk.specs.Views.{driving, scanned, read, found_if}
+use Rattle.palm_desk.specs.Plays.{Starts, Scans, Reads}
+use Rattle.palm_base.proofs.Arrivals.{at_call}
 use Rattle.palm_desk.proofs.SeatViews.{is_driving}
-use Rattle.palm_desk.proofs.Stays.{lawful_of, each_but, caller_else, caller_finishes, by_driver}
-use mathlib.Core.Path.{Path}
+use Rattle.palm_desk.proofs.Stays.{lawful_of, by_driver}
 use Rattle.palm_base.specs.Desk.{callers}
-use Rattle.palm_desk.specs.Views.{Slot}
 use Rattle.palm_desk.specs.Words.{spell}
 
 -- what the driver's view says of the machine

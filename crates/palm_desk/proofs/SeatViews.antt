@@ -1,6 +1,6 @@
 -- What stays of the seats while one of them moves.
-use Rattle.std.proofs.Common.{◌≡◌, ℕ, zero, suc, ◌+◌, ◌<◌, ◌≤◌, ◌≢◌, ◌⊎◌, List, [], ◌∷◌, ◌++◌, length, get_or, set, sym, refl, ap, ◌∙◌, subst, arith, inl, inr, ⊎_elim, All, Contains}
-use mathlib.Core.Option.{none, some, some-injective, some-ne-none}
+use Rattle.std.proofs.Common.{◌≡◌, ℕ, ◌<◌, ◌≤◌, ◌≢◌, List, get_or, set, sym, refl, ap, ◌∙◌, subst, arith, inl, inr, ⊎_elim, All, Contains}
+use mathlib.Core.Option.{some, some-injective}
 use mathlib.Core.Logic.{dite}
 use mathlib.Core.Path.{Path}
 use native.Mathlib.Decide.{ℕ_discrete}
@@ -17,7 +17,6 @@ use Rattle.palm_desk.specs.Views.{calling, driving}
 use Rattle.palm_desk.specs.Rule.{Knows, Seated}
 use Rattle.palm_base.proofs.Arrivals.{at_below}
 use Rattle.palm_base.proofs.DeskLaws.{at_put}
-use Rattle.palm_base.specs.Desk.{callers}
 
 pub put_here : {A : Type 0} (f : ℕ → A) (c : ℕ) (x : A) → Path A (put f c x c) x
 put_here {A} f c x = at_put f c x (λ i y. i ≡ c → Path A y x) c (λ _ _. refl) (λ ne e. absurd (ne e)) refl

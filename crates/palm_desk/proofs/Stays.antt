@@ -1,12 +1,10 @@
 -- What stays of the callers and of the driver while one seat steps.
-use Rattle.std.proofs.Common.{◌≡◌, ℕ, zero, suc, ◌+◌, ◌-◌, ◌*◌, ◌%◌, ◌<◌, ◌≤◌, ◌≢◌, ◌⊎◌, List, [], ◌∷◌, ◌++◌, length, get_or, set, take, sym, refl, ap, ◌∙◌, subst, arith, length-set, get_or-set_other, inl, inr, ⊎_elim}
-use mathlib.Core.Option.{none, some, some-injective, some-ne-none}
+use Rattle.std.proofs.Common.{◌≡◌, ℕ, ◌+◌, ◌<◌, ◌≤◌, ◌≢◌, List, [], ◌∷◌, ◌++◌, length, get_or, set, take, sym, ap, ◌∙◌, subst, arith, length-set}
+use mathlib.Core.Option.{some}
 use mathlib.Core.Logic.{dite}
 use native.Mathlib.Decide.{ℕ_discrete}
 use lib.ListN.{get_elem?}
-use Rattle.atomic_table.specs.Table.{State}
 use Rattle.atomic_table.proofs.Lists.{at_longer}
-use Rattle.palm_base.specs.declared.call.Call.{Call}
 use Rattle.palm_base.specs.declared.call.Entry.{Entry}
 use Rattle.palm_base.specs.declared.call.Reply.{Reply}
 use Rattle.palm_base.specs.declared.desk.Terms.{Terms}
@@ -15,13 +13,12 @@ use Rattle.palm_base.specs.Desk.{Machine, Lawful, Reached, put}
 use Rattle.palm_desk.specs.declared.views.CallerView.{CallerView}
 use Rattle.palm_desk.specs.declared.views.DriverView.{DriverView}
 use Rattle.palm_desk.specs.declared.views.Role.TheVariants.{Calling, Driving}
-use Rattle.palm_desk.specs.declared.views.View.{View}
 use Rattle.palm_desk.specs.Views.{calling, driving}
-use Rattle.palm_desk.specs.Rule.{Desk, Homes, Holder, cell, state_at, words_at, Begins, Posted, CellOk, CallerOk, CallerAt, DriverOk, Seated, InWindow, CellAt, AreCalls, IsRuled}
-use Rattle.palm_base.proofs.Arrivals.{at_below, length-made_by, made_by-other, take_more}
+use Rattle.palm_desk.specs.Rule.{Desk, Homes, Holder, cell, words_at, CallerOk, CallerAt, DriverOk, InWindow, CellAt, AreCalls, IsRuled}
+use Rattle.palm_base.proofs.Arrivals.{length-made_by, take_more}
 use Rattle.palm_base.proofs.DeskLaws.{at_put, reached_lawful}
 use Rattle.palm_desk.proofs.Cells.{begins_else, cells_apart}
-use Rattle.palm_desk.proofs.SeatViews.{put_here, put_else, calls_on, drives_on}
+use Rattle.palm_desk.proofs.SeatViews.{calls_on, drives_on}
 use Rattle.palm_base.specs.Desk.{callers}
 use Rattle.palm_desk.specs.Words.{spell}
 

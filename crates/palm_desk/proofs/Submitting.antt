@@ -1,32 +1,20 @@
 -- The steps of a submit, one after the other.
-use Rattle.std.proofs.Common.{◌≡◌, ℕ, zero, suc, ◌+◌, ◌-◌, ◌*◌, ◌/◌, ◌%◌, ◌^◌, ◌<◌, ◌≤◌, ◌≢◌, ◌⊎◌, List, [], ◌∷◌, ◌++◌, length, get_or, set, take, sym, refl, ap, ◌∙◌, subst, arith, cond, eq-eqb, ne_eqb, mod-lt, mul-le-mul_right, length-set, length-append, get_or-set_other, get_or-set_same, inl, inr, ⊎_elim, Some, None}
-use mathlib.Core.Option.{none, some, some-injective, some-ne-none}
+use Rattle.std.proofs.Common.{◌≡◌, ℕ, suc, ◌+◌, ◌-◌, ◌*◌, ◌%◌, ◌^◌, ◌<◌, ◌≤◌, List, [], ◌∷◌, ◌++◌, length, get_or, set, sym, refl, ap, ◌∙◌, subst, arith, mod-lt, length-set, length-append, get_or-set_other, get_or-set_same, None}
+use mathlib.Core.Option.{none, some-injective}
 use mathlib.Core.Logic.{dite}
 use native.Mathlib.Decide.{ℕ_discrete, dec_le}
 use lib.ListN.{get_elem?}
-use native.Mathlib.Nat.{add-mod_right}
-use lib.Seq.{length-take-le, set-get_or}
-use Rattle.atomic_table.specs.Table.{State, Me, Step, step, keeps, takes, gives, Allows, put_back, rest}
+use Rattle.atomic_table.specs.Table.{Step, step, Allows, rest}
 use Rattle.palm_base.specs.declared.call.Call.{Call}
-use Rattle.palm_base.specs.declared.call.Entry.{Entry}
-use Rattle.palm_base.specs.declared.call.Reply.{Reply}
 use Rattle.palm_base.specs.declared.desk.Terms.{Terms}
-use Rattle.palm_base.specs.declared.desk.Event.TheVariants.{Arrive, Post, Take, Answer, Finish, Collect}
-use Rattle.palm_base.specs.Arrivals.{entry, count_of, made_by, replies_for}
-use Rattle.palm_base.specs.Desk.{Machine, Lawful, put, next_entry, arrive, post, collect, May}
-use Rattle.palm_desk.specs.declared.views.CallerView.{CallerView}
-use Rattle.palm_desk.specs.declared.views.Role.TheVariants.{Calling, Driving}
 use Rattle.palm_desk.specs.declared.views.View.{View}
-use Rattle.palm_desk.specs.Views.{calling, drafted, arrived, posted_one, looked, given_one, called}
-use Rattle.palm_desk.specs.Rule.{Desk, Homes, Holder, cell, state_at, words_at, Begins, Empty, Out, Posted, CellOk, CallerOk, CallerAt, DriverOk, InWindow, CellAt, IsRuled}
-use Rattle.palm_desk.specs.Plays.{Drafts, Arrives, Posts, Looks, Collects}
-use Rattle.palm_desk.proofs.SeatViews.{put_here, put_else, is_calling}
-use Rattle.palm_desk.proofs.Callers.{Own, own, backs}
-use Rattle.std.proofs.Common.{max, slice_index, slice_set}
+use Rattle.palm_desk.specs.Views.{calling, drafted, arrived, posted_one}
+use Rattle.palm_desk.specs.Rule.{Holder, cell, IsRuled}
+use Rattle.palm_desk.specs.Plays.{Drafts, Arrives, Posts}
+use Rattle.std.proofs.Common.{max, slice_set}
 use Rattle.palm_desk.specs.Holding.{held, CallerIsReady}
 use Rattle.palm_desk.proofs.Callers.{drafts, arrives_at, posts_at}
 use Rattle.atomic_table.proofs.Lists.{at_last, one_turn}
-use Rattle.palm_base.proofs.Arrivals.{at_below}
 use Rattle.palm_desk.proofs.Cells.{at_front, in_rows}
 use mathlib.Core.Path.{Path}
 use Rattle.palm_base.specs.Desk.{callers}

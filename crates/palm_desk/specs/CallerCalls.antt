@@ -19,12 +19,12 @@ uncollected s = length s.made - length s.collected
 
 -- The seat may make a call: it has fewer uncollected calls than the window, and has made fewer than the quota.
 abbrev pub MayCall : CallerState → Type 0
-MayCall s = (uncollected s < s.terms.window) × (length s.made < s.terms.quota)
+MayCall s = (uncollected s < s.desk.terms.window) × (length s.made < s.desk.terms.quota)
 
 -- Why it may make none. A full window comes first, so a seat is spent only where there is room.
 abbrev pub Refuses : CallerState → SubmitFault → Type 0
-Refuses s Full = uncollected s ≡ s.terms.window
-Refuses s Spent = (uncollected s < s.terms.window) × (length s.made ≡ s.terms.quota)
+Refuses s Full = uncollected s ≡ s.desk.terms.window
+Refuses s Spent = (uncollected s < s.desk.terms.window) × (length s.made ≡ s.desk.terms.quota)
 
 -- The seat after a call with this number. So a Get of 4 under the number 10 adds (10, Get 4) to what is made, and no more.
 abbrev pub after_call : ℕ → Call → CallerState → CallerState

@@ -1,6 +1,9 @@
 pub mod CallerCalls
+pub mod Closing
 pub mod DriverCalls
 pub mod Holding
+pub mod Joining
+pub mod Leftovers
 pub mod Opened
 pub mod Plays
 pub mod Rule

@@ -1,5 +1,5 @@
 -- What the seats of a desk know, and how one step changes it.
-use Rattle.std.specs.Prelude.{◌≡◌, ℕ, ◌+◌, ◌*◌, ◌==◌, cond, List, [], ◌∷◌, ◌++◌, length, max, Option, Some}
+use Rattle.std.specs.Prelude.{ℕ, ◌+◌, ◌*◌, ◌==◌, cond, List, [], ◌∷◌, ◌++◌, length, max, Option, Some}
 use Rattle.palm_base.specs.declared.call.Call.{Call}
 use Rattle.palm_base.specs.declared.call.Entry.{Entry}
 use Rattle.palm_base.specs.declared.call.Reply.{Reply}
@@ -7,7 +7,6 @@ use Rattle.palm_base.specs.declared.desk.Terms.{Terms}
 use Rattle.palm_desk.specs.declared.views.Answered.{Answered}
 use Rattle.palm_desk.specs.declared.views.CallerView.{CallerView}
 use Rattle.palm_desk.specs.declared.views.DriverView.{DriverView}
-use Rattle.palm_desk.specs.declared.views.Role.{Role}
 use Rattle.palm_desk.specs.declared.views.Role.TheVariants.{Calling, Driving, Spent}
 use Rattle.palm_desk.specs.declared.views.View.{View}
 

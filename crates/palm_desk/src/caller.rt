@@ -87,19 +87,13 @@ pub enum Poll {
 #[derive(Drop)]
 pub struct CallerSeat {
     pub(crate) seat: Seat<Slot, View>,
-    pub(crate) turns: Turns,
-}
-
-/// What a caller counts beside the table: its calls, and the numbers of those that it has not collected, the one of the turn `k`
-/// at the place `k` modulo the window.
-#[derive(Drop)]
-pub(crate) struct Turns {
-    pub caller: usize,
-    pub window: usize,
-    pub quota: usize,
-    pub made: usize,
-    pub got: usize,
-    pub numbers: Vec<u64>,
+    pub(crate) caller: usize,
+    pub(crate) window: usize,
+    pub(crate) quota: usize,
+    pub(crate) made: usize,
+    pub(crate) got: usize,
+    // the numbers of the calls that are not collected, that of the turn `k` at the place `k` modulo the window
+    pub(crate) numbers: Vec<u64>,
 }
 
 impl Model for CallerSeat {
@@ -110,21 +104,24 @@ impl Model for CallerSeat {
 
     ghost view = { λ a. caller_state a.seat.table_id a.seat.me.0 };
 
-    ghost invariant = { λ a. CallerIsReady a.seat.table_id.words a.seat.me a.turns.caller a.turns.window a.turns.quota a.turns.made a.turns.got a.turns.numbers.items };
+    ghost invariant = { λ a.
+        CallerIsReady a.seat.table_id.words a.seat.me a.caller a.window a.quota a.made a.got
+        a.numbers.items };
 }
 
 impl CallerSeat {
     /// How many calls may be made before one is collected.
     pub fn room(&self) -> usize
-        ensures { result + uncollected self.now ≡ self.now.terms.window }
+        ensures { result + uncollected self.now ≡ self.now.desk.terms.window }
     {
-        self.turns.window - (self.turns.made - self.turns.got)
+        self.window - (self.made - self.got)
     }
 
-    /// Makes a call, and answers its arrival number: the count of all calls that had arrived at the desk, from its base on.
+    /// Makes a call, and answers its arrival number: the count of all calls that had arrived at the desk, from its
+    /// base on.
     ///
-    /// `Full` exactly where the seat has as many calls that it has not collected as the window allows, and `Spent` exactly where
-    /// it isn't full and has made its quota of calls. A refusal changes nothing.
+    /// `Full` exactly where the seat has as many calls that it has not collected as the window allows, and `Spent`
+    /// exactly where it isn't full and has made its quota of calls. A refusal changes nothing.
     pub fn submit(&mut self, desk: &Desk, call: Call) -> Result<u64, SubmitFault>
         requires { self.old.desk ≡ desk.now }
         ensures made { IfOk result (λ number. self.new ≡ after_call number call self.old) }
@@ -133,14 +130,14 @@ impl CallerSeat {
         ensures refused { IfErr result (λ fault. Refuses self.old fault) }
         ensures unchanged { IfErr result (λ fault. self.new ≡ self.old) }
     {
-        if self.turns.made - self.turns.got == self.turns.window {
+        if self.made - self.got == self.window {
             return Err(SubmitFault::Full);
         }
-        if self.turns.made == self.turns.quota {
+        if self.made == self.quota {
             return Err(SubmitFault::Spent);
         }
-        let place = self.turns.made % self.turns.window;
-        let cell = self.turns.caller * self.turns.window + place;
+        let place = self.made % self.window;
+        let cell = self.caller * self.window + place;
         let words = words_of(&call);
         let shared = &desk.table.shared;
         shared.store::<Draft>(&mut self.seat, 4 * cell + 3, words.first);
@@ -148,35 +145,36 @@ impl CallerSeat {
         shared.store::<Draft>(&mut self.seat, 4 * cell + 5, words.third);
         let number = shared.fetch_add::<Arrive>(&mut self.seat, 0, 1);
         shared.store::<Post>(&mut self.seat, 4 * cell + 2, 4 * number + 1);
-        self.turns.numbers[place] = number;
-        self.turns.made += 1;
+        self.numbers[place] = number;
+        self.made += 1;
         Ok(number)
     }
 
     /// Looks for the reply to the seat's oldest call that it has not collected, and collects it where it is there.
     ///
-    /// `Nothing` exactly where the seat has no such call. Else the count of finished calls is loaded once and kept as the
-    /// seat's front. `Pending` exactly where the front is at most the call's number, and the seat is as before but for the
-    /// look. Else the answer is the number and its reply, which the seat has then collected, and its cell is free.
+    /// `Nothing` exactly where the seat has no such call. Else the count of finished calls is loaded once and kept
+    /// as the seat's front. `Pending` exactly where the front is at most the call's number, and the seat is as
+    /// before but for the look. Else the answer is the number and its reply, which the seat has then collected, and
+    /// its cell is free.
     pub fn poll(&mut self, desk: &Desk) -> Poll
         requires { self.old.desk ≡ desk.now }
         ensures { Polled self.old self.new result }
     {
-        if self.turns.made == self.turns.got {
+        if self.made == self.got {
             return Poll::Nothing;
         }
         let shared = &desk.table.shared;
         let front = shared.load::<Look>(&mut self.seat, 1);
-        let place = self.turns.got % self.turns.window;
-        let number = self.turns.numbers[place];
+        let place = self.got % self.window;
+        let number = self.numbers[place];
         if front <= number {
             return Poll::Pending;
         }
-        let cell = self.turns.caller * self.turns.window + place;
+        let cell = self.caller * self.window + place;
         shared.swap::<Collect>(&mut self.seat, 4 * cell + 2, 0);
         let found = shared.exchange(&mut self.seat, cell, None);
         self.seat.turn();
-        self.turns.got += 1;
+        self.got += 1;
         let Some(answered) = found else {
             unreachable!()
         };

@@ -1,5 +1,6 @@
 // The driver's seat.
-ghost use Rattle.std.specs.Prelude.{◌≡◌, ℕ, ◌+◌, ◌<◌, ◌≤◌, ◌++◌, ◌∷◌, [], length, IfSome, IfNone};
+ghost use Rattle.std.specs.Prelude.{◌≡◌, ℕ, ◌+◌, ◌<◌, ◌≤◌, ◌++◌, ◌∷◌, [], length};
+ghost use Rattle.std.specs.Prelude.{IfSome, IfNone};
 ghost use Rattle.palm_base.specs.Arrivals.{count_of};
 ghost use Rattle.palm_desk.specs.DriverCalls.{TakesNext, FindsNone};
 
@@ -25,7 +26,8 @@ impl Play<Slot, View> for Finish {
     ghost then = { Finishes };
 }
 
-/// The driver's seat: a token that holds no desk. Contracts see the calls that it has taken, its replies, and what it has loaded.
+/// The driver's seat: a token that holds no desk. Contracts see the calls that it has taken, its replies, and what
+/// it has loaded.
 #[derive(Drop)]
 pub struct DriverSeat {
     pub(crate) seat: Seat<Slot, View>,
@@ -39,30 +41,48 @@ pub struct DriverSeat {
     pub(crate) counts: Vec<usize>,
     // the cells of the calls that are taken and not answered, that of the call `i` at the place `i` modulo the cells
     pub(crate) order: Vec<usize>,
+    pub(crate) left: Left,
+}
+
+/// Room for what is left when the desk is closed: how many calls each caller has collected and made, the slots, and
+/// the two lists.
+#[derive(Drop)]
+pub(crate) struct Left {
+    pub got: Vec<usize>,
+    pub made: Vec<usize>,
+    pub slots: Vec<Slot>,
+    pub waiting: Vec<Entry>,
+    pub unread: Vec<(u64, Reply)>,
 }
 
 impl Model for DriverSeat {
     ghost use Rattle.palm_desk.specs.Seats.{DriverState, driver_state};
+    ghost use Rattle.std.specs.Prelude.{◌*◌};
     ghost use Rattle.palm_desk.specs.Holding.{DriverIsReady};
+    ghost use Rattle.palm_desk.specs.Leftovers.{HasRoomLeft};
 
     ghost Value = { DriverState };
 
     ghost view = { λ a. driver_state a.seat.table_id a.seat.me.0 };
 
-    ghost invariant = { λ a. DriverIsReady a.seat.table_id.words a.seat.me a.base a.window a.callers a.taken a.answered a.firsts.items a.counts.items a.order.items };
+    ghost invariant = { λ a.
+        DriverIsReady a.seat.table_id.words a.seat.me a.base a.window a.callers a.taken a.answered
+        a.firsts.items a.counts.items a.order.items
+        × HasRoomLeft a.callers (a.callers * a.window) a.left };
 }
 
 impl DriverSeat {
     /// Takes the next call, where its caller has posted it.
     ///
-    /// It loads the state of each caller's next cell, from the caller 0 on, until one is Called with the next arrival number,
-    /// and takes that call. `None` exactly where no caller's cell was: then the states stay known as the seat's scan.
+    /// It loads the state of each caller's next cell, from the caller 0 on, until one is Called with the next
+    /// arrival number, and takes that call. `None` exactly where no caller's cell was: then the states stay known
+    /// as the seat's scan.
     pub fn next(&mut self, desk: &Desk) -> Option<Entry>
         requires { self.old.desk ≡ desk.now }
         ensures some { IfSome result (λ entry. TakesNext self.old self.new entry) }
         ensures none { IfNone result (FindsNone self.old self.new) }
-        ensures quota { (c : ℕ) → c < length self.new.terms.firsts
-            → count_of c self.new.taken ≤ self.new.terms.quota }
+        ensures quota { (c : ℕ) → c < length self.new.desk.terms.firsts
+            → count_of c self.new.taken ≤ self.new.desk.terms.quota }
     {
         let number = self.base + self.taken as u64;
         let caller = find_next(desk, &mut self.seat, &self.counts, self.window, number)?;

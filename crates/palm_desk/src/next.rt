@@ -1,5 +1,6 @@
 // The driver looks for the next call, and takes it.
-ghost use Rattle.std.specs.Prelude.{◌≡◌, ℕ, ◌^◌, ◌+◌, ◌*◌, ◌<◌, ◌≤◌, ◌++◌, ◌∷◌, [], length, None, IfSome, IfNone, slice_index};
+ghost use Rattle.std.specs.Prelude.{◌≡◌, ℕ, ◌^◌, ◌+◌, ◌*◌, ◌<◌, ◌≤◌, ◌++◌};
+ghost use Rattle.std.specs.Prelude.{◌∷◌, [], length, None, IfSome, IfNone, slice_index};
 ghost use Rattle.palm_base.specs.Arrivals.{count_of};
 ghost use Rattle.palm_base.specs.Desk.{callers};
 ghost use Rattle.palm_desk.specs.Views.{driving, scanned};
@@ -46,7 +47,7 @@ impl Play<Slot, View> for Take {
 
 // Loads the state of a caller's next cell. That of the caller 0 begins a scan.
 fn look(desk: &Desk, seat: &mut Seat<Slot, View>, caller: usize, at: usize) -> u64
-    requires table { seat.old.table_id ≡ desk.now }
+    requires table { seat.old.table_id ≡ desk.now.table }
     requires view { (seat.old.me.0.role ≡ Driving) × (caller < callers seat.old.me.0.terms)
         × (at ≡ cell seat.old.me.0.terms caller (count_of caller seat.old.me.0.drives.taken)) }
     requires turn { 0 < caller → length seat.old.me.0.drives.scan ≡ caller }
@@ -75,8 +76,9 @@ pub(crate) fn find_next(
     window: usize,
     number: u64,
 ) -> Option<usize>
-    requires table { seat.old.table_id ≡ desk.now }
-    requires view { (seat.old.me.0.role ≡ Driving) × (number ≡ next_number seat.old.me.0) × (number < 2 ^ 62) }
+    requires table { seat.old.table_id ≡ desk.now.table }
+    requires view { (seat.old.me.0.role ≡ Driving) × (number ≡ next_number seat.old.me.0)
+        × (number < 2 ^ 62) }
     requires fresh { (seat.old.me.0.drives.found ≡ 0) × (seat.old.me.0.drives.loaded ≡ []) }
     requires counts { (length counts.now ≡ callers seat.old.me.0.terms)
         × ((c : ℕ) → c < length counts.now
@@ -106,7 +108,7 @@ pub(crate) fn take_found(
     at: usize,
     number: u64,
 ) -> Call
-    requires table { seat.old.table_id ≡ desk.now }
+    requires table { seat.old.table_id ≡ desk.now.table }
     requires view { (seat.old.me.0.role ≡ Driving)
         × (at ≡ cell seat.old.me.0.terms caller (count_of caller seat.old.me.0.drives.taken))
         × (number ≡ next_number seat.old.me.0) }

@@ -1,12 +1,14 @@
 // A desk is opened.
-ghost use Rattle.std.specs.Prelude.{◌≡◌, ℕ, ◌+◌, ◌*◌, ◌^◌, ◌<◌, ◌≤◌, ◌∷◌, length, IfOk, replicate, slice_index};
+ghost use Rattle.std.specs.Prelude.{◌≡◌, ℕ, ◌+◌, ◌*◌, ◌^◌, ◌<◌, ◌≤◌, ◌∷◌};
+ghost use Rattle.std.specs.Prelude.{length, IfOk, replicate, slice_index};
 ghost use Rattle.palm_desk.specs.Views.{newcomer, seated};
+ghost use Rattle.palm_desk.specs.Leftovers.{HasRoomLeft};
 ghost use Rattle.palm_desk.specs.Opened.{terms_with, new_driver, AreNewCallers};
 ghost use Rattle.palm_desk.specs.Seats.{caller_state};
 ghost use Rattle.palm_desk.specs.declared.views.Role.TheVariants.{Driving};
 
-use crate::caller::{CallerSeat, Turns};
-use crate::driver::DriverSeat;
+use crate::caller::CallerSeat;
+use crate::driver::{DriverSeat, Left};
 use crate::views::{Desk, Slot, View};
 use atomic_table::{Seat, Split, Table};
 use palm_base::desk::Terms;
@@ -39,6 +41,19 @@ fn zeros<T: Copy>(alloc: Global, n: usize, zero: T) -> Result<Vec<T>, NoMemory>
     Ok(zeros)
 }
 
+// Room for what is left when the desk is closed.
+fn room_left(alloc: Global, callers: usize, cells: usize) -> Result<Left, NoMemory>
+    ensures { IfOk result (λ left. HasRoomLeft callers cells left) }
+{
+    Ok(Left {
+        got: zeros(alloc, callers, 0)?,
+        made: zeros(alloc, callers, 0)?,
+        slots: Vec::with_capacity(alloc, cells)?,
+        waiting: Vec::with_capacity(alloc, cells)?,
+        unread: Vec::with_capacity(alloc, cells)?,
+    })
+}
+
 // The words of a desk that was just opened: the two counts, and all cells idle.
 fn words_of(alloc: Global, base: u64, cells: usize) -> Result<Vec<u64>, NoMemory>
     requires { cells ≤ 4096 }
@@ -62,7 +77,7 @@ fn caller_seat(
     window: usize,
     quota: usize,
 ) -> Result<CallerSeat, NoMemory>
-    requires table { seat.old.table_id ≡ desk.now }
+    requires table { seat.old.table_id ≡ desk.now.table }
     requires words { seat.old.table_id.words ≡ 4 * (length seat.old.me.0.terms.firsts * window) + 2 }
     requires view { (seat.old.me.0.role ≡ Driving) × (seat.old.me.0.drives.seats ≡ caller)
         × (seat.old.me.0.terms.window ≡ window) × (seat.old.me.0.terms.quota ≡ quota) }
@@ -76,21 +91,23 @@ fn caller_seat(
 {
     let numbers = zeros(alloc, window, 0)?;
     let seat = desk.table.shared.split_seat::<NewSeat>(seat);
-    let turns = Turns {
+    Ok(CallerSeat {
+        seat,
         caller,
         window,
         quota,
         made: 0,
         got: 0,
         numbers,
-    };
-    Ok(CallerSeat { seat, turns })
+    })
 }
 
-/// Opens a desk for as many callers as there are first places, with the driver's seat and a seat for each caller, in their order.
+/// Opens a desk for as many callers as there are first places, with the driver's seat and a seat for each caller,
+/// in their order.
 ///
-/// The caller `c` begins at the place `firsts[c]`, and arrival numbers begin at `base`. Each caller has `window` cells, and may make
-/// `quota` calls. No other call of a desk takes memory. `NoMemory` where memory was refused: then nothing is left of the desk.
+/// The caller `c` begins at the place `firsts[c]`, and arrival numbers begin at `base`. Each caller has `window`
+/// cells, and may make `quota` calls. No other call of a desk takes memory. `NoMemory` where memory was refused:
+/// then nothing is left of the desk.
 pub fn open_desk(
     alloc: Global,
     base: u64,
@@ -102,11 +119,9 @@ pub fn open_desk(
     requires places { (base ≤ 2 ^ 61) × ((c : ℕ) → slice_index firsts.now c ≤ 2 ^ 61) }
     requires window { (1 ≤ window) × (window ≤ 64) }
     requires quota { (1 ≤ quota) × (quota ≤ 2 ^ 40) }
-    ensures driver { IfOk result (λ opened.
-        opened.1 ≡ new_driver opened.0 (terms_with base firsts.now window quota)) }
-    ensures callers { IfOk result (λ opened.
-        AreNewCallers opened.0 (terms_with base firsts.now window quota)
-        (length firsts.now) opened.2.items) }
+    ensures terms { IfOk result (λ opened. opened.0.terms ≡ terms_with base firsts.now window quota) }
+    ensures driver { IfOk result (λ opened. opened.1 ≡ new_driver opened.0) }
+    ensures callers { IfOk result (λ opened. AreNewCallers opened.0 (length firsts.now) opened.2.items) }
 {
     let callers = firsts.len();
     let window = window as usize;
@@ -122,6 +137,7 @@ pub fn open_desk(
     let counts = zeros(alloc, callers, 0)?;
     let order = zeros(alloc, cells, 0)?;
     let firsts = copied(alloc, firsts)?;
+    let left = room_left(alloc, callers, cells)?;
     let (table, mut seat) = Table::vacant(alloc, words.as_slice(), cells, &terms)?;
     let desk = Desk { table };
     let mut seats = Vec::new(alloc);
@@ -139,6 +155,7 @@ pub fn open_desk(
         firsts,
         counts,
         order,
+        left,
     };
     Ok((desk, driver, seats))
 }

@@ -1,6 +1,7 @@
 // What callers and a driver meet with at a desk, one after another and beside each other.
 ghost use Rattle.std.specs.Thread.{IsSync};
-ghost use Rattle.std.specs.Prelude.{◌≡◌, ◌+◌, ◌<◌, ◌≤◌, length, All};
+ghost use Rattle.std.specs.Prelude.{◌≡◌, ◌+◌, ◌<◌, ◌≤◌, [], length};
+ghost use Rattle.palm_desk.specs.Opened.{AreNewCallers, new_caller};
 
 use super::*;
 use palm_base::{Amount, Call, Digits, Entry, NoMemory, Reply};
@@ -42,11 +43,19 @@ fn first_of(caller: u32, call: Call) -> Entry {
     }
 }
 
+fn is_number(reply: &Reply, number: u64) -> bool {
+    match reply {
+        Reply::Value(rate) => rate.get() == number,
+        _ => false,
+    }
+}
+
 // The last of the seats.
 fn last_seat(rt: &impl Abort, desk: &Desk, seats: &mut Vec<CallerSeat>) -> CallerSeat
-    requires { All (λ seat. seat.desk ≡ desk.now) seats.old.items }
-    ensures desk { result.desk ≡ desk.now }
-    ensures rest { All (λ seat. seat.desk ≡ desk.now) seats.new.items }
+    requires { AreNewCallers desk.now (length seats.old.items) seats.old.items }
+    ensures seat { result ≡ new_caller desk.now (length seats.new.items) }
+    ensures len { length seats.new.items + 1 ≡ length seats.old.items }
+    ensures rest { AreNewCallers desk.now (length seats.new.items) seats.new.items }
 {
     seats.pop().expect(rt, "a seat")
 }
@@ -59,28 +68,32 @@ fn assert_submits(
     said: Result<u64, SubmitFault>,
 )
     requires { seat.old.desk ≡ desk.now }
-    ensures { seat.new.desk ≡ desk.now }
+    ensures desk { seat.new.desk ≡ desk.now }
+    ensures caller { seat.new.caller ≡ seat.old.caller }
 {
     assert!(rt; seat.submit(desk, call) == said);
 }
 
 fn assert_pends(rt: &impl Abort, desk: &Desk, seat: &mut CallerSeat)
     requires { seat.old.desk ≡ desk.now }
-    ensures { seat.new.desk ≡ desk.now }
+    ensures desk { seat.new.desk ≡ desk.now }
+    ensures caller { seat.new.caller ≡ seat.old.caller }
 {
     assert!(rt; matches!(seat.poll(desk), Poll::Pending));
 }
 
 fn assert_has_nothing(rt: &impl Abort, desk: &Desk, seat: &mut CallerSeat)
     requires { seat.old.desk ≡ desk.now }
-    ensures { seat.new.desk ≡ desk.now }
+    ensures desk { seat.new.desk ≡ desk.now }
+    ensures caller { seat.new.caller ≡ seat.old.caller }
 {
     assert!(rt; matches!(seat.poll(desk), Poll::Nothing));
 }
 
 fn assert_is_told_new(rt: &impl Abort, desk: &Desk, seat: &mut CallerSeat, number: u64)
     requires { seat.old.desk ≡ desk.now }
-    ensures { seat.new.desk ≡ desk.now }
+    ensures desk { seat.new.desk ≡ desk.now }
+    ensures caller { seat.new.caller ≡ seat.old.caller }
 {
     let Poll::Ready(told, Reply::New) = seat.poll(desk) else {
         panic!(rt; "a reply");
@@ -121,6 +134,24 @@ fn answer(desk: &Desk, driver: &mut DriverSeat, reply: Reply)
     driver.answer(desk, reply);
 }
 
+// What is left of a desk of two callers.
+fn close_two(
+    desk: Desk,
+    driver: DriverSeat,
+    first: CallerSeat,
+    second: CallerSeat,
+    mut seats: Vec<CallerSeat>,
+) -> Result<Rest, Fail>
+    requires driver { (driver.desk ≡ desk) × (length desk.terms.firsts ≡ 2) }
+    requires first { (first.desk ≡ desk) × (first.caller ≡ 0) }
+    requires second { (second.desk ≡ desk) × (second.caller ≡ 1) }
+    requires none { seats.items ≡ [] }
+{
+    seats.push(first)?;
+    seats.push(second)?;
+    Ok(close(desk, driver, seats))
+}
+
 #[test]
 fn calls_are_taken_in_one_order_and_told_once_they_are_finished(
     rt: HostRuntime,
@@ -147,16 +178,45 @@ fn calls_are_taken_in_one_order_and_told_once_they_are_finished(
     driver.finish(&desk);
     assert_is_told_new(&rt, &desk, &mut first, 0);
     assert_has_nothing(&rt, &desk, &mut first);
+    let rest = close_two(desk, driver, first, second, seats)?;
+    assert!(rt; rest.waiting.is_empty());
+    assert_eq!(rt; rest.unread.len(), 1);
+    for (number, reply) in rest.unread.as_slice() {
+        assert!(rt; *number == 1 && is_number(reply, 1));
+    }
     Ok(())
+}
+
+// What is left of a desk of one caller.
+fn close_one(
+    desk: Desk,
+    driver: DriverSeat,
+    seat: CallerSeat,
+    mut seats: Vec<CallerSeat>,
+) -> Result<Rest, Fail>
+    requires driver { (driver.desk ≡ desk) × (length desk.terms.firsts ≡ 1) }
+    requires seat { (seat.desk ≡ desk) × (seat.caller ≡ 0) }
+    requires none { seats.items ≡ [] }
+{
+    seats.push(seat)?;
+    Ok(close(desk, driver, seats))
 }
 
 #[test]
 fn a_full_window_is_told_before_a_spent_quota(rt: HostRuntime) -> Result<(), Fail> {
     for (window, fault) in [(2, SubmitFault::Spent), (1, SubmitFault::Full)] {
-        let (desk, _driver, mut seats) = open_desk(rt.alloc(), 10, &[3], window, 1)?;
+        let (desk, driver, mut seats) = open_desk(rt.alloc(), 10, &[3], window, 1)?;
         let mut seat = last_seat(&rt, &desk, &mut seats);
         assert_submits(&rt, &desk, &mut seat, get(&rt, "4"), Ok(10));
         assert_submits(&rt, &desk, &mut seat, get(&rt, "4"), Err(fault));
+        let rest = close_one(desk, driver, seat, seats)?;
+        assert!(rt; rest.unread.is_empty());
+        let waiting = [Entry {
+            caller: 0,
+            place: 3,
+            call: get(&rt, "4"),
+        }];
+        assert!(rt; rest.waiting.as_slice() == waiting.as_slice());
     }
     Ok(())
 }
@@ -166,13 +226,6 @@ fn a_full_window_is_told_before_a_spent_quota(rt: HostRuntime) -> Result<(), Fai
 struct Tally {
     calls: u64,
     right: bool,
-}
-
-fn is_number(reply: &Reply, number: u64) -> bool {
-    match reply {
-        Reply::Value(rate) => rate.get() == number,
-        _ => false,
-    }
 }
 
 // Makes calls as they find room, and collects the replies, each of which is to be its call's number. The numbers rise.

@@ -63,8 +63,8 @@ pub struct View {
     pub drives: DriverView,
 }
 
-/// What an answer feeds its caller beside the reply: nothing as yet. The place is kept, so that no step of the desk changes
-/// when it comes.
+/// What an answer feeds its caller beside the reply: nothing as yet. The place is kept, so that no step of the desk
+/// changes when it comes.
 pub type Feed = ();
 
 /// A reply on its way to its caller.
@@ -90,19 +90,18 @@ impl TableRule<Slot, View, Terms> for DeskRule {
     ghost first = { maker };
 }
 
-/// A desk. Threads share it by reference, and call at it with the seats that were made with it. It has the words and the slots
-/// that the drawing in docs/ARCHITECTURE.md shows. Contracts see which desk it is.
+/// A desk. Threads share it by reference, and call at it with the seats that were made with it. It has the words
+/// and the slots that the drawing in docs/ARCHITECTURE.md shows. Contracts see which desk it is, and the terms that
+/// it opened with.
 #[derive(Drop)]
 pub struct Desk {
     pub(crate) table: Table<Slot, View, Terms, DeskRule, Global>,
 }
 
 impl Model for Desk {
-    ghost use Rattle.atomic_table.specs.Seated.{TableId, table_id_coded};
+    ghost use Rattle.palm_desk.specs.Seats.{DeskState};
 
-    ghost Value = { TableId };
+    ghost Value = { DeskState };
 
-    ghost coded = { table_id_coded };
-
-    ghost view = { λ a. a.table.shared.table_id };
+    ghost view = { λ a. record { table = a.table.shared.table_id; terms = a.table.shared.key } };
 }

@@ -1,4 +1,4 @@
-use Rattle.std.proofs.Common.{◌≡◌, ◌≢◌, ℕ, ◌+◌, ◌<◌, length, All}
+use Rattle.std.proofs.Common.{◌≡◌, ◌≢◌, ◌+◌, ◌<◌, length, All}
 use Rattle.palm_desk.specs.Scans.{next_number}
 use Rattle.palm_desk.specs.Views.{driving, called}
 use Rattle.palm_desk.proofs.next.find_next.Given as goal

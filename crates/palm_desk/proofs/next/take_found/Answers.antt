@@ -1,23 +1,24 @@
-use Rattle.std.proofs.Common.{◌≡◌, ℕ, ◌+◌, ◌*◌, ◌<◌, [], ◌∷◌, sym, refl, ap, ◌∙◌, subst, arith}
+use Rattle.std.proofs.Common.{◌+◌, ◌*◌, ◌<◌, [], ◌∷◌, sym, refl, ap, ◌∙◌, subst, arith}
+use Rattle.palm_desk.specs.Seats.{DeskState}
 use Rattle.palm_desk.proofs.Nexting.{at_none, on_read, read_ok, take_ok, on_take, read_call}
 use Rattle.palm_desk.proofs.next.take_found.Goals as goal
 
 pub load-first-requires : goal.load-first-requires
 load-first-requires c =
-    let s = c.args.seat.now in let r = c.requires in let own = r.table ∙ sym c.desk.view_is in let w = r.words in
+    let s = c.args.seat.now in let r = c.requires in let own = r.table ∙ sym (ap (λ (d : DeskState). d.table) c.desk.view_is) in let w = r.words in
     let e0 = at_none s.me r.found.1 in
     (own, subst (λ t. 4 * c.args.at + 3 < t.words) own (omega arith), read_ok _ _ _ s.me s.me ([]) _ c.args.caller c.args.at r.view.0 r.found.0 r.view.1 (omega arith) (omega arith) e0)
 
 pub load-second-requires : goal.load-second-requires
 load-second-requires c =
-    let s = c.args.seat.now in let r = c.requires in let own = r.table ∙ sym c.desk.view_is in let w = r.words in
+    let s = c.args.seat.now in let r = c.requires in let own = r.table ∙ sym (ap (λ (d : DeskState). d.table) c.desk.view_is) in let w = r.words in
     let e0 = at_none s.me r.found.1 in
     let e1 = on_read s.me s.me c.load-first.new.seat.me ([]) c.load-first.result e0 c.load-first.ensures.2 in
     (c.load-first.ensures.0 ∙ own, subst (λ t. 4 * c.args.at + 4 < t.words) own (omega arith), read_ok _ _ _ s.me c.load-first.new.seat.me (c.load-first.result ∷ []) _ c.args.caller c.args.at r.view.0 r.found.0 r.view.1 (omega arith) (omega arith) e1)
 
 pub load-third-requires : goal.load-third-requires
 load-third-requires c =
-    let s = c.args.seat.now in let r = c.requires in let own = r.table ∙ sym c.desk.view_is in let w = r.words in
+    let s = c.args.seat.now in let r = c.requires in let own = r.table ∙ sym (ap (λ (d : DeskState). d.table) c.desk.view_is) in let w = r.words in
     let e0 = at_none s.me r.found.1 in
     let e1 = on_read s.me s.me c.load-first.new.seat.me ([]) c.load-first.result e0 c.load-first.ensures.2 in
     let e2 = on_read s.me c.load-first.new.seat.me c.load-second.new.seat.me (c.load-first.result ∷ []) c.load-second.result e1 c.load-second.ensures.2 in
@@ -25,7 +26,7 @@ load-third-requires c =
 
 pub swap-requires : goal.swap-requires
 swap-requires c =
-    let s = c.args.seat.now in let r = c.requires in let own = r.table ∙ sym c.desk.view_is in let w = r.words in
+    let s = c.args.seat.now in let r = c.requires in let own = r.table ∙ sym (ap (λ (d : DeskState). d.table) c.desk.view_is) in let w = r.words in
     let e0 = at_none s.me r.found.1 in
     let e1 = on_read s.me s.me c.load-first.new.seat.me ([]) c.load-first.result e0 c.load-first.ensures.2 in
     let e2 = on_read s.me c.load-first.new.seat.me c.load-second.new.seat.me (c.load-first.result ∷ []) c.load-second.result e1 c.load-second.ensures.2 in

@@ -1,4 +1,4 @@
-use Rattle.std.proofs.Common.{◌≡◌, ℕ, ◌+◌, ◌*◌, [], length}
+use Rattle.std.proofs.Common.{◌≡◌, ◌+◌, ◌*◌, [], length}
 use Rattle.palm_desk.specs.Opened.{terms_with, AreNewCallers}
 use Rattle.palm_desk.proofs.Opening.{made}
 use Rattle.palm_desk.proofs.open.open_desk.Given as goal
@@ -9,5 +9,5 @@ invariant-loop-caller l = record {
   words : l.seat.table_id.words ≡ 4 * (length l.fn.firsts * l.window) + 2;
   view : l.seat.me.0 ≡ made (terms_with l.base l.fn.firsts l.window l.quota) l.caller;
   held : l.seat.me.1 ≡ [];
-  new : AreNewCallers l.desk-inside.table.shared.table_id (terms_with l.base l.fn.firsts l.window l.quota) l.caller l.seats.items;
+  new : AreNewCallers (record { table = l.desk-inside.table.shared.table_id; terms = terms_with l.base l.fn.firsts l.window l.quota }) l.caller l.seats.items;
 }

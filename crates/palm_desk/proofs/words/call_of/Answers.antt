@@ -1,4 +1,4 @@
-use Rattle.std.proofs.Common.{◌≡◌, ℕ, ◌^◌, ◌/◌, arith}
+use Rattle.std.proofs.Common.{arith}
 use Rattle.palm_desk.proofs.CallWords.{first_key, set_back, del_back, get_back, rate_back, list_back, list_parts, set_rate}
 use Rattle.palm_desk.proofs.words.call_of.Goals as goal
 

@@ -1,28 +1,28 @@
-use Rattle.std.proofs.Common.{◌≡◌, ℕ, ◌+◌, ◌-◌, ◌*◌, ◌%◌, ◌<◌, ◌≤◌, [], ◌∷◌, length, slice_set, sym, refl, ap, ◌∙◌, subst, arith, Some}
+use Rattle.std.proofs.Common.{◌+◌, ◌*◌, ◌%◌, ◌<◌, sym, refl, ap, ◌∙◌, subst, arith}
 use Rattle.palm_desk.specs.Holding.{CallerIsReady}
 use Rattle.palm_desk.specs.CallerCalls.{Polled}
-use Rattle.palm_desk.specs.Seats.{CallerState, caller_state}
+use Rattle.palm_desk.specs.Seats.{DeskState, CallerState, caller_state}
 use Rattle.palm_desk.specs.declared.caller.Poll.TheVariants.{Pending, Ready}
 use Rattle.palm_desk.proofs.Polling.{on_look, look_ok, oldest, collect_ok, on_collect, in_cell, out, on_exchange, told_pending, told_ready}
 use Rattle.palm_desk.proofs.caller.CallerSeat.poll.Goals as goal
 
 pub load-front-requires : goal.load-front-requires
-load-front-requires c = let s = c.self.inside.seat in let t = c.self.inside.turns in let r = c.self.invariant in
-    let own = ap (λ (v : CallerState). v.desk) c.self.view_is ∙ c.requires ∙ sym c.desk.view_is in
+load-front-requires c = let s = c.self.inside.seat in let t = c.self.inside in let r = c.self.invariant in
+    let own = ap (λ (d : DeskState). d.table) (ap (λ (v : CallerState). v.desk) c.self.view_is ∙ c.requires ∙ sym c.desk.view_is) in
     let wd = in_cell _ _ _ _ _ _ _ _ r in
     (own, subst (λ z. 1 < z.words) own (omega arith), look_ok _ _ _ _ _ _ _ _ r _ _ _)
 
 pub returns-then-front-number : goal.returns-then-front-number
 returns-then-front-number c =
-    let s = c.self.inside.seat in let t = c.self.inside.turns in let r = c.self.invariant in let le = r.got_le in
+    let s = c.self.inside.seat in let t = c.self.inside in let r = c.self.invariant in let le = r.got_le in
     let o = oldest _ _ _ _ _ _ _ _ r c.index-number.result.now c.if-self.false c.index-number.ensures in
     subst (λ v. Polled v (caller_state c.load-front.new.seat.table_id c.load-front.new.seat.me.0) Pending) c.self.view_is
     (told_pending _ _ s.me.0 c.load-front.new.seat.me.0 _ _ _ c.load-front.ensures.0 o.1 c.if-front-number.true c.load-front.ensures.2.0)
 
 pub swap-requires : goal.swap-requires
 swap-requires c =
-    let s = c.self.inside.seat in let t = c.self.inside.turns in let r = c.self.invariant in
-    let own = ap (λ (v : CallerState). v.desk) c.self.view_is ∙ c.requires ∙ sym c.desk.view_is in
+    let s = c.self.inside.seat in let t = c.self.inside in let r = c.self.invariant in
+    let own = ap (λ (d : DeskState). d.table) (ap (λ (v : CallerState). v.desk) c.self.view_is ∙ c.requires ∙ sym c.desk.view_is) in
     let le = r.got_le in
     let o = oldest _ _ _ _ _ _ _ _ r c.index-number.result.now c.if-self.false c.index-number.ensures in
     let e1 = on_look s.me c.load-front.new.seat.me c.load-front.result c.load-front.ensures.2 in
@@ -34,8 +34,8 @@ swap-requires c =
 
 pub exchange-found-requires : goal.exchange-found-requires
 exchange-found-requires c =
-    let s = c.self.inside.seat in let t = c.self.inside.turns in let r = c.self.invariant in
-    let own = ap (λ (v : CallerState). v.desk) c.self.view_is ∙ c.requires ∙ sym c.desk.view_is in
+    let s = c.self.inside.seat in let t = c.self.inside in let r = c.self.invariant in
+    let own = ap (λ (d : DeskState). d.table) (ap (λ (v : CallerState). v.desk) c.self.view_is ∙ c.requires ∙ sym c.desk.view_is) in
     let le = r.got_le in
     let o = oldest _ _ _ _ _ _ _ _ r c.index-number.result.now c.if-self.false c.index-number.ensures in
     let e1 = on_look s.me c.load-front.new.seat.me c.load-front.result c.load-front.ensures.2 in
@@ -44,8 +44,8 @@ exchange-found-requires c =
 
 pub invariant_of-self-2 : goal.invariant_of-self-2
 invariant_of-self-2 c =
-    let s = c.self.inside.seat in let t = c.self.inside.turns in let r = c.self.invariant in
-    let own = ap (λ (v : CallerState). v.desk) c.self.view_is ∙ c.requires ∙ sym c.desk.view_is in
+    let s = c.self.inside.seat in let t = c.self.inside in let r = c.self.invariant in
+    let own = ap (λ (d : DeskState). d.table) (ap (λ (v : CallerState). v.desk) c.self.view_is ∙ c.requires ∙ sym c.desk.view_is) in
     let le = r.got_le in
     let o = oldest _ _ _ _ _ _ _ _ r c.index-number.result.now c.if-self.false c.index-number.ensures in
     let e1 = on_look s.me c.load-front.new.seat.me c.load-front.result c.load-front.ensures.2 in
@@ -55,8 +55,8 @@ invariant_of-self-2 c =
 
 pub returns : goal.returns
 returns c =
-    let s = c.self.inside.seat in let t = c.self.inside.turns in let r = c.self.invariant in
-    let own = ap (λ (v : CallerState). v.desk) c.self.view_is ∙ c.requires ∙ sym c.desk.view_is in
+    let s = c.self.inside.seat in let t = c.self.inside in let r = c.self.invariant in
+    let own = ap (λ (d : DeskState). d.table) (ap (λ (v : CallerState). v.desk) c.self.view_is ∙ c.requires ∙ sym c.desk.view_is) in
     let le = r.got_le in
     let o = oldest _ _ _ _ _ _ _ _ r c.index-number.result.now c.if-self.false c.index-number.ensures in
     let e1 = on_look s.me c.load-front.new.seat.me c.load-front.result c.load-front.ensures.2 in

@@ -1,13 +1,13 @@
-use Rattle.std.proofs.Common.{◌≡◌, ℕ, ◌+◌, ◌-◌, ◌*◌, ◌%◌, ◌<◌, ◌≤◌, [], ◌∷◌, length, slice_set, sym, refl, ap, ◌∙◌, subst, arith}
-use Rattle.palm_desk.specs.Seats.{CallerState}
+use Rattle.std.proofs.Common.{◌+◌, ◌*◌, ◌%◌, ◌<◌, [], ◌∷◌, slice_set, sym, refl, ap, ◌∙◌, subst, arith}
+use Rattle.palm_desk.specs.Seats.{DeskState, CallerState}
 use Rattle.palm_desk.specs.Holding.{CallerIsReady}
 use Rattle.palm_desk.proofs.Submitting.{at_first, on_draft, on_arrive, draft_ok, arrive_ok, post_ok, on_post, in_words, all_stored}
 use Rattle.palm_desk.proofs.caller.CallerSeat.submit.Goals as goal
 
 pub store-requires : goal.store-requires
 store-requires c =
-    let s = c.self.inside.seat in let t = c.self.inside.turns in let r = c.self.invariant in
-    let own = ap (λ (v : CallerState). v.desk) c.self.view_is ∙ c.requires ∙ sym c.desk.view_is in
+    let s = c.self.inside.seat in let t = c.self.inside in let r = c.self.invariant in
+    let own = ap (λ (d : DeskState). d.table) (ap (λ (v : CallerState). v.desk) c.self.view_is ∙ c.requires ∙ sym c.desk.view_is) in
     let g = r.got_le in let room = r.room in let left = r.left in
     let wd = in_words _ _ _ _ _ _ _ _ r in
     let some_room : t.made < t.got + t.window = (let no = c.if-self.false in omega arith) in
@@ -20,8 +20,8 @@ store-requires c =
 
 pub store-requires-2 : goal.store-requires-2
 store-requires-2 c =
-    let s = c.self.inside.seat in let t = c.self.inside.turns in let r = c.self.invariant in
-    let own = ap (λ (v : CallerState). v.desk) c.self.view_is ∙ c.requires ∙ sym c.desk.view_is in
+    let s = c.self.inside.seat in let t = c.self.inside in let r = c.self.invariant in
+    let own = ap (λ (d : DeskState). d.table) (ap (λ (v : CallerState). v.desk) c.self.view_is ∙ c.requires ∙ sym c.desk.view_is) in
     let g = r.got_le in let room = r.room in let left = r.left in
     let wd = in_words _ _ _ _ _ _ _ _ r in
     let some_room : t.made < t.got + t.window = (let no = c.if-self.false in omega arith) in
@@ -35,8 +35,8 @@ store-requires-2 c =
 
 pub store-requires-3 : goal.store-requires-3
 store-requires-3 c =
-    let s = c.self.inside.seat in let t = c.self.inside.turns in let r = c.self.invariant in
-    let own = ap (λ (v : CallerState). v.desk) c.self.view_is ∙ c.requires ∙ sym c.desk.view_is in
+    let s = c.self.inside.seat in let t = c.self.inside in let r = c.self.invariant in
+    let own = ap (λ (d : DeskState). d.table) (ap (λ (v : CallerState). v.desk) c.self.view_is ∙ c.requires ∙ sym c.desk.view_is) in
     let g = r.got_le in let room = r.room in let left = r.left in
     let wd = in_words _ _ _ _ _ _ _ _ r in
     let some_room : t.made < t.got + t.window = (let no = c.if-self.false in omega arith) in
@@ -51,8 +51,8 @@ store-requires-3 c =
 
 pub fetch_add-number-requires : goal.fetch_add-number-requires
 fetch_add-number-requires c =
-    let s = c.self.inside.seat in let t = c.self.inside.turns in let r = c.self.invariant in
-    let own = ap (λ (v : CallerState). v.desk) c.self.view_is ∙ c.requires ∙ sym c.desk.view_is in
+    let s = c.self.inside.seat in let t = c.self.inside in let r = c.self.invariant in
+    let own = ap (λ (d : DeskState). d.table) (ap (λ (v : CallerState). v.desk) c.self.view_is ∙ c.requires ∙ sym c.desk.view_is) in
     let g = r.got_le in let room = r.room in let left = r.left in
     let wd = in_words _ _ _ _ _ _ _ _ r in
     let some_room : t.made < t.got + t.window = (let no = c.if-self.false in omega arith) in
@@ -70,8 +70,8 @@ fetch_add-number-requires c =
 
 pub store-requires-4 : goal.store-requires-4
 store-requires-4 c =
-    let s = c.self.inside.seat in let t = c.self.inside.turns in let r = c.self.invariant in
-    let own = ap (λ (v : CallerState). v.desk) c.self.view_is ∙ c.requires ∙ sym c.desk.view_is in
+    let s = c.self.inside.seat in let t = c.self.inside in let r = c.self.invariant in
+    let own = ap (λ (d : DeskState). d.table) (ap (λ (v : CallerState). v.desk) c.self.view_is ∙ c.requires ∙ sym c.desk.view_is) in
     let g = r.got_le in let room = r.room in let left = r.left in
     let wd = in_words _ _ _ _ _ _ _ _ r in
     let some_room : t.made < t.got + t.window = (let no = c.if-self.false in omega arith) in
@@ -90,8 +90,8 @@ store-requires-4 c =
 
 pub invariant_of-self : goal.invariant_of-self
 invariant_of-self c =
-    let s = c.self.inside.seat in let t = c.self.inside.turns in let r = c.self.invariant in
-    let own = ap (λ (v : CallerState). v.desk) c.self.view_is ∙ c.requires ∙ sym c.desk.view_is in
+    let s = c.self.inside.seat in let t = c.self.inside in let r = c.self.invariant in
+    let own = ap (λ (d : DeskState). d.table) (ap (λ (v : CallerState). v.desk) c.self.view_is ∙ c.requires ∙ sym c.desk.view_is) in
     let g = r.got_le in let room = r.room in let left = r.left in
     let wd = in_words _ _ _ _ _ _ _ _ r in
     let some_room : t.made < t.got + t.window = (let no = c.if-self.false in omega arith) in
