@@ -11,7 +11,7 @@ use std::test::Fail;
 use std::thread::{Threads, join};
 
 // How many calls each caller makes beside the others.
-const CALLS: u64 = 10_000;
+const CALLS: u64 = 25_000;
 
 // After so many looks in vain a thread gives up.
 const MOST_TURNS: u32 = 4_000_000_000;
